@@ -1,0 +1,3 @@
+pub mod Labels
+pub mod Limits
+pub mod Tokens

@@ -1,0 +1,69 @@
+-- A program is a dialogue with a world: it asks one thing after another, and the world replies or ends the dialogue.
+use Rattle.std.specs.Prelude.{ℕ, ℤ, List, [], ◌∷◌, ◌++◌}
+
+-- one thing that a program asks or does
+pub data Action : Type 0 where
+  -- enters a function with a frame of so many bytes; the reply is the frame's base
+  Enter : (size : ℕ) → Action
+  -- leaves the frame of so many bytes at this base
+  Leave : (base size : ℕ) → Action
+  -- writes these bytes, the text of one conversion; the reply is their number
+  Out : (bytes : List ℕ) → Action
+  -- ends main with this result
+  End : (result : ℤ) → Action
+
+-- a thing that is asked, with its line of the program's text
+pub record Item : Type 0 where
+  pub action : Action
+  pub line : ℕ
+
+-- what was asked so far, the newest first
+abbrev pub Tape : Type 0
+Tape = List Item
+
+-- the world's reply: go on with this value, or the dialogue is over before the item
+pub data Reply : Type 0 where
+  Says : (value : ℕ) → Reply
+  Ends : Reply
+
+-- a world replies to what is asked now, after all that was asked before
+abbrev pub World : Type 0
+World = Tape → Item → Reply
+
+-- why a dialogue stops before there is a value: the world ended it
+pub data Reason : Type 0 where
+  Over : Reason
+
+-- a value, or why there is none, with the tape
+pub data Outcome (A : Type 0) : Type 0 where
+  Goes : (value : A) (tape : Tape) → Outcome A
+  Stops : (why : Reason) (tape : Tape) → Outcome A
+
+-- goes on from a value
+abbrev pub then_do : {A B : Type 0} → Outcome A → (A → Tape → Outcome B) → Outcome B
+then_do (Goes value tape) go = go value tape
+then_do (Stops why tape) go = Stops why tape
+
+abbrev pub replied : Reply → Tape → Outcome ℕ
+replied (Says value) tape = Goes value tape
+replied Ends tape = Stops Over tape
+
+-- asks one thing, in a line
+abbrev pub ask : World → Action → ℕ → Tape → Outcome ℕ
+ask w action line tape =
+    let item : Item = record { action = action; line = line } in
+    replied (w tape item) (item ∷ tape)
+
+-- asks one thing, and goes on with a value of one's own
+abbrev pub tell : {A : Type 0} → World → Action → ℕ → A → Tape → Outcome A
+tell w action line a tape = then_do (ask w action line tape) (λ r t. Goes a t)
+
+-- the bytes that an action writes
+abbrev pub written_by : Action → List ℕ
+written_by (Out bytes) = bytes
+written_by _ = []
+
+-- all that a tape writes, the oldest first
+abbrev pub output : Tape → List ℕ
+output [] = []
+output (item ∷ tape) = output tape ++ written_by item.action

@@ -1,0 +1,8 @@
+//! The front end of the small language: from a text to the one tree that it spells.
+#![tactic(auto)]
+
+mod front;
+mod tree;
+
+pub use front::{one_program, read_program};
+pub use tree::{Program, Statement};
