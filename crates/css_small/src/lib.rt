@@ -2,7 +2,10 @@
 #![tactic(auto)]
 
 mod front;
+mod lexer;
+mod parser;
 mod tree;
+mod unspelled;
 
 pub use front::{one_program, read_program};
 pub use tree::{Program, Statement};
