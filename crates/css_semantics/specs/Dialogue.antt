@@ -21,7 +21,7 @@ pub record Item : Type 0 where
 abbrev pub Tape : Type 0
 Tape = List Item
 
--- the world's reply: go on with this value, or the dialogue is over before the item
+-- the world's reply: go on with this value, or the dialogue is over at the item, which is the last on the tape
 pub data Reply : Type 0 where
   Says : (value : ℕ) → Reply
   Ends : Reply
@@ -30,9 +30,10 @@ pub data Reply : Type 0 where
 abbrev pub World : Type 0
 World = Tape → Item → Reply
 
--- why a dialogue stops before there is a value: the world ended it
+-- why a dialogue stops before there is a value: the world ended it, or the fuel is spent by which a definition ends
 pub data Reason : Type 0 where
   Over : Reason
+  Tired : Reason
 
 -- a value, or why there is none, with the tape
 pub data Outcome (A : Type 0) : Type 0 where

@@ -1,0 +1,18 @@
+-- That code has a program's dialogue.
+use Rattle.std.specs.Prelude.{◌≡◌, ◌≢◌, ℕ, ℤ, List}
+use Rattle.css_semantics.specs.Dialogue.{World, Tape, Goes, Stops, Over}
+use Rattle.css_vm.specs.Code.{Routine}
+use Rattle.css_vm.specs.Machine.{Finished, Stuck, target}
+use Rattle.css_vm.specs.Soundness.{Spot, IsSound}
+use Rattle.css_small.specs.Tree.{Program}
+use Rattle.css_small_code.specs.Meaning.{source}
+
+-- The code is sound, and in every world it has the program's dialogue: it makes the same tape and ends in the same way, exactly
+-- when the program does.
+pub record Codes (f : Routine) (p : Program) : Type 0 where
+  pub sound : (plan : List Spot) × IsSound f plan
+  pub finishes : (w : World) (v : ℤ) (tape : Tape) → source w p ≡ Goes v tape → (n : ℕ) × (target w f n ≡ Goes (Finished v) tape)
+  pub is_over : (w : World) (tape : Tape) → source w p ≡ Stops Over tape → (n : ℕ) × (target w f n ≡ Stops Over tape)
+  pub finishes_only : (w : World) (n : ℕ) (v : ℤ) (tape : Tape) → target w f n ≡ Goes (Finished v) tape → source w p ≡ Goes v tape
+  pub is_over_only : (w : World) (n : ℕ) (tape : Tape) → target w f n ≡ Stops Over tape → source w p ≡ Stops Over tape
+  pub never_stuck : (w : World) (n : ℕ) (tape : Tape) → target w f n ≢ Goes Stuck tape

@@ -1,0 +1,6 @@
+//! The code maker of the small language: what a program means, its code, and that the two have one dialogue in every world.
+#![tactic(auto)]
+
+mod maker;
+
+pub use maker::make_code;

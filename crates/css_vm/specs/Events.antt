@@ -1,0 +1,31 @@
+-- What a machine's run to the next event does.
+use Rattle.std.specs.Prelude.{◌≡◌, ℕ, suc, ◌+◌, ◌<◌, List}
+use Rattle.css_semantics.specs.Dialogue.{Out, Tape, World, then_do, ask}
+use Rattle.css_vm.specs.declared.machine.Event.{Event}
+use Rattle.css_vm.specs.declared.machine.Event.TheVariants as events
+use Rattle.css_vm.specs.Code.{Routine}
+use Rattle.css_vm.specs.Machine.{State, Begin, At, exec, leaving, answered, IsOwed}
+use Rattle.css_vm.specs.Soundness.{Spot, IsSound, Fits, IsAt}
+
+abbrev pub base_of : State → ℕ
+base_of Begin = 0
+base_of (At base place stack) = base
+
+-- In every world the machine goes on by itself, and then asks what the event says; with the reply it goes on from the new
+-- state.
+abbrev pub Reaches : Routine → State → Event → State → Type 0
+Reaches f old (events.Out bytes) new =
+    (steps : ℕ) × (line : ℕ) × ((w : World) (n : ℕ) (tape : Tape) → exec w f (steps + suc n) old tape ≡ then_do (ask w (Out bytes) line tape) (λ r t. exec w f n (answered r new) t))
+Reaches f old (events.Ended value line) new =
+    (steps : ℕ) × ((w : World) (n : ℕ) (tape : Tape) → exec w f (steps + suc n) old tape ≡ leaving w f.frame (base_of old) value line tape)
+
+-- a machine that is owed an answer goes on with any
+abbrev pub IfOwed : Routine → Event → State → Type 0
+IfOwed f (events.Out bytes) new = IsOwed new × ((r : ℕ) → Fits f (answered r new))
+IfOwed f (events.Ended value line) new = Unit {0}
+
+-- The machine goes on by itself for one step, and its rank falls.
+pub record Moves (f : Routine) (old new : State) : Type 0 where
+  pub same : (w : World) (n : ℕ) (tape : Tape) → exec w f (suc n) old tape ≡ exec w f n new tape
+  pub falls : (plan : List Spot) (rank : ℕ) → IsSound f plan → IsAt plan rank old → (next : ℕ) × (next < rank) × IsAt plan next new
+  pub same_frame : base_of new ≡ base_of old

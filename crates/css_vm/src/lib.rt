@@ -1,0 +1,10 @@
+//! The stack machine: its instructions and its runs.
+#![tactic(auto)]
+
+mod code;
+mod machine;
+mod printed;
+
+pub use code::{Conversion, Function, Instr, Op};
+pub use machine::{Event, Machine};
+pub use printed::Printed;
