@@ -1,5 +1,5 @@
 //! Sources of input.
-ghost use Rattle.std.specs.Prelude.{◌≡◌, ◌+◌, ◌<◌, ◌≤◌, ◌↔◌, ℕ, List, [], Option, length, take, drop, Some, IfOk, IfSome, OnErr};
+ghost use Rattle.std.specs.Prelude.{◌≡◌, ◌+◌, ◌<◌, ◌≤◌, ◌↔◌, ℕ, List, [], Option, length, take, drop, Some, IfOk, IfSome, OnErr, min};
 ghost use Rattle.css_io.specs.Outside.{Rose, Gives};
 
 use crate::failed::Failed;
@@ -25,4 +25,14 @@ pub trait Source {
         ensures failed { OnErr result (Rose (faults self.old) (faults self.new)) }
         ensures kept { OnErr result ((left self.new ≡ left self.old) × (taken self.new ≡ taken self.old)) }
         ensures never_falls { faults self.old ≤ faults self.new };
+}
+
+/// Copies the front of these bytes to the front of a part, as many as both have, and gives their number.
+pub(crate) fn copy_front(from: &[u8], part: &mut [u8]) -> usize
+    ensures count { result ≡ min (length part.old) (length from.now) }
+    ensures copied { take result part.new ≡ take result from.now }
+{
+    let count = part.len().min(from.len());
+    part[..count].copy_from_slice(&from[..count]);
+    count
 }

@@ -13,5 +13,9 @@ pub fn write_all<O: Sink>(out: &mut O, bytes: &[u8]) -> Result<(), Failed>
     ensures failed { OnErr result (Rose (O.faults out.old) (O.faults out.new)) }
     ensures never_falls { O.faults out.old ≤ O.faults out.new }
 {
+    let mut written = 0;
+    while written < bytes.len() {
+        written += out.write(&bytes[written..])?;
+    }
     Ok(())
 }

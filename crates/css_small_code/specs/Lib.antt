@@ -1,3 +1,4 @@
+pub mod Ints
 pub mod Meaning
 pub mod Code
 pub mod Correct

@@ -1,5 +1,5 @@
 -- Code that is never stuck, and whose runs end: each place has a stack height and a rank.
-use Rattle.std.specs.Prelude.{◌≡◌, ℕ, ◌+◌, ◌-◌, ◌<◌, ◌≤◌, List, length, Option, Some, None, slice_get}
+use Rattle.std.specs.Prelude.{◌≡◌, ℕ, ◌+◌, ◌-◌, ◌<◌, ◌≤◌, List, length, Some, slice_get}
 use Rattle.css_vm.specs.declared.code.Instr.{Instr}
 use Rattle.css_vm.specs.declared.code.Op.{Op}
 use Rattle.css_vm.specs.declared.code.Op.TheVariants as ops

@@ -1,5 +1,7 @@
 //! The machine's instructions. Cells are 64 bits.
 
+ghost use Rattle.std.specs.Prelude.{◌≡◌, ◌<◌, length, slice_get};
+
 use css_base::Line;
 
 /// How `out` writes a cell.
@@ -34,4 +36,14 @@ pub struct Instr {
 pub struct Function {
     pub frame: u32,
     pub body: Vec<Instr>,
+}
+
+impl Function {
+    /// The instruction at a place of the body.
+    pub fn instr_at(&self, place: usize) -> &Instr
+        requires { place < length self.now.body.items }
+        ensures { slice_get self.now.body.items place ≡ Some result.now }
+    {
+        &self.body[place]
+    }
 }

@@ -4,6 +4,8 @@
 mod code;
 mod machine;
 mod printed;
+#[cfg(test)]
+mod tests;
 
 pub use code::{Conversion, Function, Instr, Op};
 pub use machine::{Event, Machine};

@@ -49,12 +49,14 @@ impl Machine {
         }
     }
 
-    /// Takes the steps up to the next event. After `NoMemory` the machine isn't run again.
+    /// Takes the steps up to the next event. After `NoMemory`, which comes where the stack can't grow, the machine isn't run
+    /// again.
     pub fn run_to_event(&mut self, code: &Function) -> Result<Event, NoMemory>
         requires { Fits (routine code.now) self.old }
         ensures event { IfOk result (λ e. Reaches (routine code.now) self.old e self.new) }
-        ensures owed { IfOk result (λ e. IfOwed (routine code.now) e self.new) }
+        ensures owed { IfOk result (λ e. IfOwed (routine code.now) self.old e self.new) }
     {
+        // The rank falls at each step, so there are no more steps than instructions.
         for _ in 0..u64::MAX {
             if let Some(event) = self.step(code)? {
                 return Ok(event);
@@ -68,23 +70,24 @@ impl Machine {
         requires { Fits (routine code.now) self.old }
         ensures moves { IfOk result (λ e. IfNone e (Moves (routine code.now) self.old self.new)) }
         ensures event { IfOk result (λ e. IfSome e (λ v. Reaches (routine code.now) self.old v self.new)) }
-        ensures owed { IfOk result (λ e. IfSome e (λ v. IfOwed (routine code.now) v self.new)) }
+        ensures owed { IfOk result (λ e. IfSome e (λ v. IfOwed (routine code.now) self.old v self.new)) }
     {
-        let instr = &code.body[self.place];
+        let instr = code.instr_at(self.place);
+        let next = self.place + 1;
         match instr.op {
             Op::Push(number) => {
                 push(&mut self.stack, number.cast_unsigned())?;
-                self.place += 1;
+                self.place = next;
                 Ok(None)
             }
             Op::Drop => {
                 pop(&mut self.stack);
-                self.place += 1;
+                self.place = next;
                 Ok(None)
             }
             Op::Out(Conversion::Char) => {
                 let byte = (top(&self.stack) % 256) as u8;
-                self.place += 1;
+                self.place = next;
                 Ok(Some(Event::Out(Printed::byte(byte))))
             }
             Op::Ret => Ok(Some(Event::Ended(top(&self.stack), instr.line))),
@@ -116,16 +119,16 @@ fn pop(stack: &mut Vec<u64>) -> u64
     stack.pop().unwrap()
 }
 
-fn top(stack: &Vec<u64>) -> u64
-    requires { 0 < length stack.now.items }
-    ensures { (rest : List ℕ) × (reverse stack.now.items ≡ result ∷ rest) }
+fn top(stack: &[u64]) -> u64
+    requires { 0 < length stack.now }
+    ensures { (rest : List ℕ) × (reverse stack.now ≡ result ∷ rest) }
 {
     stack[stack.len() - 1]
 }
 
-fn set_top(stack: &mut Vec<u64>, cell: u64)
-    requires { 0 < length stack.old.items }
-    ensures { (top : ℕ) × (rest : List ℕ) × (reverse stack.old.items ≡ top ∷ rest) × (reverse stack.new.items ≡ cell ∷ rest) }
+fn set_top(stack: &mut [u64], cell: u64)
+    requires { 0 < length stack.old }
+    ensures { (top : ℕ) × (rest : List ℕ) × (reverse stack.old ≡ top ∷ rest) × (reverse stack.new ≡ cell ∷ rest) }
 {
     let last = stack.len() - 1;
     stack[last] = cell;

@@ -1,0 +1,4 @@
+pub mod Conversion
+pub mod Operators
+pub mod Types
+pub mod Usual

@@ -1,0 +1,68 @@
+-- The machine follows a part of a program, whatever the machine's code and the part are.
+use Rattle.std.proofs.Common.{◌≡◌, ℕ, suc, ◌≤◌, refl, sym, ◌∙◌, subst, arith}
+use Rattle.css_semantics.specs.Dialogue.{Tape, Outcome, Goes, Stops, then_do}
+use Rattle.css_vm.specs.Machine.{Halt}
+
+-- what so many steps give
+abbrev pub Run : Type 0
+Run = ℕ → Outcome Halt
+
+-- what so many steps give from behind a value
+abbrev pub Landing : Type 0 → Type 0
+Landing A = ℕ → A → Tape → Outcome Halt
+
+-- From a value of the part the machine goes on as behind it, with as many steps left as are wanted; a stop of the part is the
+-- machine's own, after at least n steps.
+abbrev pub RunsTo : {A : Type 0} → ℕ → Run → Landing A → Outcome A → Type 0
+RunsTo n from land (Goes a t) = (k : ℕ) → (j : ℕ) × (k ≤ j) × (from j ≡ land k a t)
+RunsTo n from land (Stops why t) = (j : ℕ) × (n ≤ j) × (from j ≡ Stops why t)
+
+pub record Runs {A : Type 0} (n : ℕ) (from : Run) (land : Landing A) (o : Outcome A) : Type 0 where
+  pub by : RunsTo n from land o
+
+-- nothing is left to do
+pub runs_done : {A : Type 0} (n : ℕ) (land : Landing A) (a : A) (t : Tape) → Runs n (λ k. land k a t) land (Goes a t)
+runs_done n land a t = record { by = λ k. (k, omega arith, refl) }
+
+step_to : {A : Type 0} (n : ℕ) (from mid : Run) (land : Landing A) (o : Outcome A) → ((k : ℕ) → from (suc k) ≡ mid k) → RunsTo n mid land o → RunsTo n from land o
+step_to n from mid land (Goes a t) first r = λ k. let b = r k in (suc b.0, omega (arith, b.1), first b.0 ∙ b.2)
+step_to n from mid land (Stops why t) first r = (suc r.0, omega (arith, r.1), first r.0 ∙ r.2)
+
+-- one step first
+pub runs_step : {A : Type 0} {n : ℕ} {from : Run} (mid : Run) {land : Landing A} {o : Outcome A} → ((k : ℕ) → from (suc k) ≡ mid k) → Runs n mid land o → Runs n from land o
+runs_step {n = n} {from = from} mid {land = land} {o = o} first r = record { by = step_to n from mid land o first r.by }
+
+asks_to : {A : Type 0} (n : ℕ) (from : Run) (land : Landing A) (o : Outcome A) → ((k : ℕ) → from k ≡ then_do o (land k)) → RunsTo n from land o
+asks_to n from land (Goes a t) asked = λ k. (k, omega arith, asked k)
+asks_to n from land (Stops why t) asked = (n, omega arith, asked n)
+
+-- the machine asks what the part asks
+pub runs_asks : {A : Type 0} {n : ℕ} {from : Run} {land : Landing A} (o : Outcome A) → ((k : ℕ) → from k ≡ then_do o (land k)) → Runs n from land o
+runs_asks {n = n} {from = from} {land = land} o asked = record { by = asks_to n from land o asked }
+
+after_to : {A : Type 0} (n : ℕ) (from mid : Run) (land : Landing A) (o : Outcome A) → ((k : ℕ) → (j : ℕ) × (k ≤ j) × (from j ≡ mid k)) → RunsTo n mid land o → RunsTo n from land o
+after_to n from mid land (Goes a t) first r = λ k. let b = r k in let c = first b.0 in (c.0, omega (arith, b.1, c.1), c.2 ∙ b.2)
+after_to n from mid land (Stops why t) first r = let c = first r.0 in (c.0, omega (arith, r.1, c.1), c.2 ∙ r.2)
+
+then_to : {A B : Type 0} (n : ℕ) (from : Run) (mid : Landing A) (land : Landing B) (o : Outcome A) (go : A → Tape → Outcome B) → RunsTo n from mid o → ((a : A) (t : Tape) → Runs n (λ k. mid k a t) land (go a t)) → RunsTo n from land (then_do o go)
+then_to n from mid land (Goes a t) go r next = after_to n from (λ k. mid k a t) land (go a t) r (next a t).by
+then_to n from mid land (Stops why t) go r next = r
+
+-- one part, and then another
+pub runs_then : {A B : Type 0} {n : ℕ} {from : Run} {mid : Landing A} {land : Landing B} {o : Outcome A} {go : A → Tape → Outcome B} → Runs n from mid o → ((a : A) (t : Tape) → Runs n (λ k. mid k a t) land (go a t)) → Runs n from land (then_do o go)
+runs_then {n = n} {from = from} {mid = mid} {land = land} {o = o} {go = go} r next =
+    record { by = then_to n from mid land o go r.by next }
+
+then_goes : {A : Type 0} (o : Outcome A) → then_do o Goes ≡ o
+then_goes (Goes a t) = refl
+then_goes (Stops why t) = refl
+
+-- steps behind a part, which add nothing to it
+pub runs_behind : {A : Type 0} {n : ℕ} {from : Run} {mid land : Landing A} {o : Outcome A} → Runs n from mid o → ((a : A) (t : Tape) → Runs n (λ k. mid k a t) land (Goes a t)) → Runs n from land o
+runs_behind {n = n} {from = from} {mid = mid} {land = land} {o = o} r next =
+    subst (λ o. Runs n from land o) (then_goes o) (runs_then r next)
+
+-- what is done with a value's value
+pub then_assoc : {A B C : Type 0} (o : Outcome A) (f : A → Tape → Outcome B) (g : B → Tape → Outcome C) → then_do (then_do o f) g ≡ then_do o (λ a t. then_do (f a t) g)
+then_assoc (Goes a t) f g = refl
+then_assoc (Stops why t) f g = refl
