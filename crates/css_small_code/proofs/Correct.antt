@@ -75,6 +75,7 @@ module _ (p : Program) (ints : AreInts p) where
   pub codes : Codes (program_code p) p
   codes = record {
     sound = (ranked (program_heights p), is_sound p);
+    frame = refl;
     finishes = λ w v t e. comes_to w (Goes v t) e;
     is_over = λ w t e. comes_to w (Stops Over t) e;
     finishes_only = λ w n v t e. finished_same (source w p) v t (comes_from w n (Goes (Finished v) t) tt e);

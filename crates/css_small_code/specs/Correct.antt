@@ -7,10 +7,11 @@ use Rattle.css_vm.specs.Soundness.{Spot, IsSound}
 use Rattle.css_small.specs.Tree.{Program}
 use Rattle.css_small_code.specs.Meaning.{source}
 
--- The code is sound, and in every world it has the program's dialogue: it makes the same tape and ends in the same way, exactly
+-- The code is sound and has main's frame, which has no bytes, and in every world it has the program's dialogue: it makes the same tape and ends in the same way, exactly
 -- when the program does.
 pub record Codes (f : Routine) (p : Program) : Type 0 where
   pub sound : (plan : List Spot) × IsSound f plan
+  pub frame : f.frame ≡ 0
   pub finishes : (w : World) (v : ℤ) (tape : Tape) → source w p ≡ Goes v tape → (n : ℕ) × (target w f n ≡ Goes (Finished v) tape)
   pub is_over : (w : World) (tape : Tape) → source w p ≡ Stops Over tape → (n : ℕ) × (target w f n ≡ Stops Over tape)
   pub finishes_only : (w : World) (n : ℕ) (v : ℤ) (tape : Tape) → target w f n ≡ Goes (Finished v) tape → source w p ≡ Goes v tape

@@ -69,6 +69,7 @@ fn events_in_order(rt: HostRuntime) -> Result<(), Fail> {
         let Event::Ended(cell, line) = machine.run_to_event(&code)? else {
             panic!(rt; "a third byte");
         };
+        // what the second answer was
         assert_eq!(rt; (cell, line.number()), (7, 5));
     }
     Ok(())
