@@ -1,4 +1,5 @@
 pub mod Tree
 pub mod Spelling
+pub mod Lexing
 pub mod Grammar
 pub mod Refusal

@@ -1,0 +1,2 @@
+-- A text has at most one next token.
+use Rattle.std.proofs.Common.{◌≡◌, ℕ}
