@@ -1,5 +1,5 @@
 -- Lexemes are told apart by their first bytes.
-use Rattle.std.proofs.Common.{◌≡◌, ◌⊎◌, ℕ, ◌+◌, ◌<◌, ◌≤◌, min, Bool, true, false, not, ◌&&◌, ◌||◌, leb, eqb, List, [], ◌∷◌, ◌++◌, length, take, slice_index, get_or, All, Contains, refl, sym, ap, subst, inl, inr, arith, get_or-take}
+use Rattle.std.proofs.Common.{◌≡◌, ◌⊎◌, ℕ, ◌+◌, ◌<◌, ◌≤◌, min, Bool, true, false, not, ◌&&◌, ◌||◌, leb, eqb, List, [], ◌∷◌, ◌++◌, length, take, slice_index, get_or, All, Contains, true≢false, refl, sym, ap, subst, inl, inr, arith, get_or-take}
 use Rattle.std.proofs.lemmas.Bool.{cases_lt}
 use Rattle.std.proofs.lemmas.Bool.Decides.{nat_tests}
 use Rattle.std.proofs.lemmas.List.{get_or_past, length-take}
@@ -61,3 +61,49 @@ number_from a b c d m e f h = grind arith
 
 pub front_number : (text : List ℕ) (m : ℕ) → BeginsNumber (take m text) → BeginsNumber text
 front_number text m h = number_from _ _ (slice_index text 0) (slice_index text 1) m (at_front text m 0) (at_front text m 1) h
+
+solid_nondigit : (b : ℕ) → IsNondigit b → ¬ IsBlank b
+solid_nondigit b n = λ k. grind arith
+
+solid_digit : (b : ℕ) → IsDigit b → ¬ IsBlank b
+solid_digit b d = λ k. grind arith
+
+solid_period : (b : ℕ) → b ≡ 46 → ¬ IsBlank b
+solid_period b e = λ k. grind arith
+
+-- The bytes begin with one that is no white space.
+abbrev pub is_solid : List ℕ → Bool
+is_solid [] = false
+is_solid (b ∷ bs) = not ((leb 9 b && leb b 13) || eqb b 32)
+
+no_blank : (b : ℕ) → not ((leb 9 b && leb b 13) || eqb b 32) ≡ true → ¬ IsBlank b
+no_blank b h = λ k. grind (arith, nat_tests)
+
+solid_test : (bytes : List ℕ) → is_solid bytes ≡ true → IsSolid bytes
+solid_test [] h = absurd (true≢false (sym h))
+solid_test (b ∷ bs) h = no_blank b h
+
+pub lexeme_solid : (bytes : List ℕ) → IsLexeme bytes → IsSolid bytes
+lexeme_solid bytes (inr (inr h)) = solid_test bytes (passes punctuators is_solid refl bytes h)
+lexeme_solid [] (inl h) = absurd h
+lexeme_solid (b ∷ bs) (inl h) = solid_nondigit b h.0
+lexeme_solid [] (inr (inl h)) = absurd h
+lexeme_solid (b ∷ bs) (inr (inl (inl h))) = solid_digit b h.0
+lexeme_solid (b ∷ bs) (inr (inl (inr h))) = solid_period b h.0
+
+pub solid_more : (bytes rest : List ℕ) → IsSolid bytes → IsSolid (bytes ++ rest)
+solid_more [] rest h = absurd h
+solid_more (b ∷ bs) rest h = h
+
+pub apart : (b c : ℕ) → IsNondigit b → IsDigit b ⊎ ((b ≡ 46) × IsDigit c) → ⊥
+apart b c n d = grind arith
+
+-- No bytes are a word and a number, and no word or number is a punctuator.
+pub word_no_number : (bytes : List ℕ) → IsWord bytes → IsNumber bytes → ⊥
+word_no_number bytes w n = apart (slice_index bytes 0) (slice_index bytes 1) (word_begins bytes w) (number_begins bytes n)
+
+pub word_no_punctuator : (bytes : List ℕ) → IsWord bytes → Contains punctuators bytes → ⊥
+word_no_punctuator bytes w p = (punctuator_begins bytes p).0 (word_begins bytes w)
+
+pub number_no_punctuator : (bytes : List ℕ) → IsNumber bytes → Contains punctuators bytes → ⊥
+number_no_punctuator bytes n p = (punctuator_begins bytes p).1 (number_begins bytes n)

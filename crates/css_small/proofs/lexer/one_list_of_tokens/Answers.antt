@@ -1,8 +1,5 @@
-use Rattle.css_small.proofs.Cuts.{two_cuts}
-use Rattle.css_small.proofs.Tables.{same_at_length}
-use Rattle.css_small.proofs.Openings
-use Rattle.css_small.proofs.Uniqueness
+use Rattle.css_small.proofs.Uniqueness.{one_list}
 use Rattle.css_small.proofs.lexer.one_list_of_tokens.Goals as goal
 
 pub returns : goal.returns
-returns c = ?
+returns c = one_list 1 0
