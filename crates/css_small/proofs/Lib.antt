@@ -2,3 +2,4 @@ pub mod Cuts
 pub mod Tables
 pub mod Openings
 pub mod Uniqueness
+pub mod Longest

@@ -1,5 +1,5 @@
 -- The table of punctuators, by tests that compute over it.
-use Rattle.std.proofs.Common.{◌≡◌, ◌↔◌, ℕ, Bool, true, not, ◌||◌, List, length, eqb, Contains, IsTrue, bytes_eq, Decides, refl, sym, inl, inr, ◌∙◌, eq-eqb}
+use Rattle.std.proofs.Common.{◌≡◌, ◌↔◌, ℕ, ◌+◌, ◌<◌, ◌≤◌, Bool, true, not, ◌&&◌, ◌||◌, List, [], ◌∷◌, map, length, get_or, eqb, nat_eq, Contains, IsTrue, bytes_eq, Decides, refl, ap, ap₂, sym, inl, inr, ◌∙◌, eq-eqb, arith, false}
 use Rattle.std.specs.List.{list_any, list_all}
 use Rattle.std.proofs.lemmas.Bool.{or_cases, both_ways, not-true}
 use Rattle.std.proofs.lemmas.Bool.Decides.{Decides-by_or}
@@ -36,3 +36,29 @@ same_at_length n part table are bytes answer long is = (there, back)
           inl other ↦ absurd (both_ways (eqb (length bytes) n) (not-true (eqb (length bytes) n) other) (eq-eqb (length bytes) n long))
         | inr among ↦ is ∙ among
         ]
+
+-- A table of bytes, as one of byte strings.
+abbrev pub strings : List ℕ → List (List ℕ)
+strings bytes = map (λ b. b ∷ []) bytes
+
+and_true : (x : Bool) → x ≡ (x && true)
+and_true true = refl
+and_true false = refl
+
+pub is_among-strings : (table : List ℕ) (b : ℕ) → list_any (λ y. nat_eq y b) table ≡ is_among (strings table) (b ∷ [])
+is_among-strings [] b = refl
+is_among-strings (y ∷ table) b = ap₂ ◌||◌ (and_true (nat_eq y b)) (is_among-strings table b)
+
+-- Bytes of a known number are those at their places.
+pub one_byte : (bytes : List ℕ) → length bytes ≡ 1 → bytes ≡ get_or bytes 0 0 ∷ []
+one_byte [] e = absurd (omega arith)
+one_byte (a ∷ []) e = refl
+one_byte (a ∷ b ∷ bytes) e = absurd (omega arith)
+
+pub two_bytes : (bytes : List ℕ) → length bytes ≡ 2 → bytes ≡ get_or bytes 0 0 ∷ get_or bytes 1 0 ∷ []
+two_bytes [] e = absurd (omega arith)
+two_bytes (a ∷ bytes) e = ap (λ l. a ∷ l) (one_byte bytes (omega arith))
+
+pub three_bytes : (bytes : List ℕ) → length bytes ≡ 3 → bytes ≡ get_or bytes 0 0 ∷ get_or bytes 1 0 ∷ get_or bytes 2 0 ∷ []
+three_bytes [] e = absurd (omega arith)
+three_bytes (a ∷ bytes) e = ap (λ l. a ∷ l) (two_bytes bytes (omega arith))
