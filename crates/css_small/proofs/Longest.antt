@@ -103,16 +103,19 @@ number_front text last begins two l each =
       let left : k < suc last = omega arith in
       text_at (λ b. GoesOn (get_or (take (suc last) text) k 0) b) text (suc last) (suc k) k_in (text_at (λ b. GoesOn b (get_or text (suc k) 0)) text (suc last) k left (each k k_in)))
 
-pub number_longest : (text : List ℕ) (last : ℕ) → BeginsNumber text → (slice_index text 0 ≡ 46 → 2 ≤ suc last) → suc last ≤ length text
-  → ((k : ℕ) → suc k < suc last → GoesOn (slice_index text k) (slice_index text (suc k)))
-  → (suc last < length text → ¬ GoesOn (slice_index text last) (slice_index text (suc last))) → IsLongestFront IsNumber text (suc last)
-number_longest text last begins two l each stop = record {
+pub number_longest : (text : List ℕ) (n : ℕ) → BeginsNumber text → 0 < n → (slice_index text 0 ≡ 46 → 2 ≤ n) → n ≤ length text
+  → ((k : ℕ) → suc k < n → GoesOn (slice_index text k) (slice_index text (suc k)))
+  → (n < length text → ¬ GoesOn (slice_index text (n - 1)) (slice_index text n)) → IsLongestFront IsNumber text n
+number_longest text zero begins low two l each stop = absurd (omega arith)
+number_longest text (suc last) begins low two l each stop = record {
   within = l;
   front = number_front text last begins two l each;
   longest = λ more h m number.
     let last_in : last < more = omega arith in
+    let back : last ≡ suc last - 1 = omega arith in
     let at_last = number_at (take more text) number last (omega (arith, length-take more text)) in
-    stop (omega arith) (front_at (λ b. GoesOn (get_or text last 0) b) text more (suc last) h (front_at (λ b. GoesOn b (get_or (take more text) (suc last) 0)) text more last last_in at_last));
+    let goes_on = front_at (λ b. GoesOn (get_or text last 0) b) text more (suc last) h (front_at (λ b. GoesOn b (get_or (take more text) (suc last) 0)) text more last last_in at_last) in
+    stop (omega arith) (subst (λ k. GoesOn (get_or text k 0) (get_or text (suc last) 0)) back goes_on);
 }
 
 -- Lexemes: the first bytes tell the class of all of them.

@@ -1,24 +1,14 @@
-use Rattle.std.proofs.Common.{rules, ℕ, ◌<◌, All, IfSome, IfNone, take, length, ◌≡◌, ◌+◌, ◌-◌, ◌*◌, ◌≤◌, ◌/◌, ◌%◌, Bool, true, false, nat_eq, nat_lt, List, [], ◌∷◌, ◌++◌, slice_index_or, slice_set, bit_and, bit_or, Fits, w8, w32, w64, Bor, MutBor}
-use Rattle.css_small.specs.Spelling.{IsBlank, IsWord, IsNumber, IsLexeme}
-use Rattle.css_small.specs.Lexing.{IsLongestFront, BeginsAs}
+use Rattle.std.proofs.Common.{arith}
+use Rattle.std.proofs.lemmas.Bool.{both_ways}
+use Rattle.css_small.proofs.Longest.{number_longest}
 use Rattle.css_small.proofs.lexer.scan.number_length.Goals as goal
 
--- src/lexer/scan.rt:60:5
-pub loop-end-init : goal.loop-end-init
-loop-end-init c = ?
-
--- src/lexer/scan.rt:60:44
-pub overflow_sub-end : goal.overflow_sub-end
-overflow_sub-end c = ?
-
--- src/lexer/scan.rt:60:5
-pub loop-end-preserved : goal.loop-end-preserved
-loop-end-preserved c = ?
-
--- src/lexer/scan.rt:55:1
 pub returns-else-goes_on : goal.returns-else-goes_on
-returns-else-goes_on c = ?
+returns-else-goes_on c =
+    let i = c.loop-end.invariant in
+    number_longest c.args.text.now c.loop-end.end c.requires i.0 i.1 i.2 i.3 (λ l h. both_ways c.goes_on.result c.if-goes_on.false (c.goes_on.ensures.1 h))
 
--- src/lexer/scan.rt:55:1
 pub returns-after-loop-end : goal.returns-after-loop-end
-returns-after-loop-end c = ?
+returns-after-loop-end c =
+    let i = c.loop-end.invariant in
+    number_longest c.args.text.now c.loop-end.end c.requires i.0 i.1 i.2 i.3 (λ l h. absurd (omega arith))
