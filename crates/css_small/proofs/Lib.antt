@@ -3,3 +3,4 @@ pub mod Tables
 pub mod Openings
 pub mod Uniqueness
 pub mod Longest
+pub mod Decimals

@@ -1,5 +1,5 @@
 -- Lexemes are told apart by their first bytes.
-use Rattle.std.proofs.Common.{◌≡◌, ◌⊎◌, ℕ, ◌+◌, ◌<◌, ◌≤◌, min, Bool, true, false, not, ◌&&◌, ◌||◌, leb, eqb, List, [], ◌∷◌, ◌++◌, length, take, slice_index, get_or, All, Contains, true≢false, refl, sym, ap, subst, inl, inr, arith, get_or-take}
+use Rattle.std.proofs.Common.{◌≡◌, ◌⊎◌, ℕ, ◌+◌, ◌<◌, ◌≤◌, min, Bool, true, false, not, ◌&&◌, ◌||◌, leb, eqb, List, [], ◌∷◌, ◌++◌, length, take, slice_index, get_or, All, Contains, true≢false, refl, sym, ap, subst, inl, inr, arith, get_or-take, zero-lt-suc}
 use Rattle.std.proofs.lemmas.Bool.{cases_lt}
 use Rattle.std.proofs.lemmas.Bool.Decides.{nat_tests}
 use Rattle.std.proofs.lemmas.List.{get_or_past, length-take}
@@ -107,3 +107,18 @@ word_no_punctuator bytes w p = (punctuator_begins bytes p).0 (word_begins bytes 
 
 pub number_no_punctuator : (bytes : List ℕ) → IsNumber bytes → Contains punctuators bytes → ⊥
 number_no_punctuator bytes n p = (punctuator_begins bytes p).1 (number_begins bytes n)
+
+-- The first bytes of a lexeme tell its class.
+pub lexeme_size : (bytes : List ℕ) → IsLexeme bytes → 0 < length bytes
+lexeme_size [] h = absurd (lexeme_solid [] h)
+lexeme_size (b ∷ bs) h = zero-lt-suc (length bs)
+
+pub lexeme_word : (bytes : List ℕ) → BeginsAs classes.Word bytes → IsLexeme bytes → IsWord bytes
+lexeme_word bytes begins (inl word) = word
+lexeme_word bytes begins (inr (inl number)) = absurd (apart (slice_index bytes 0) (slice_index bytes 1) begins (number_begins bytes number))
+lexeme_word bytes begins (inr (inr held)) = absurd ((punctuator_begins bytes held).0 begins)
+
+pub lexeme_number : (bytes : List ℕ) → BeginsAs classes.Number bytes → IsLexeme bytes → IsNumber bytes
+lexeme_number bytes begins (inl word) = absurd (apart (slice_index bytes 0) (slice_index bytes 1) (word_begins bytes word) begins)
+lexeme_number bytes begins (inr (inl number)) = number
+lexeme_number bytes begins (inr (inr held)) = absurd ((punctuator_begins bytes held).1 begins)

@@ -70,6 +70,16 @@ one_kind bytes some other h k = by (kind_is bytes some h) (kind_is bytes other k
     by (inr (inr p)) (inr (inl q)) = absurd (number_no_punctuator bytes q.1 p.0)
     by (inr (inr p)) (inr (inr q)) = p.1 ∙ sym q.1
 
+-- A number that is no decimal constant has no kind.
+pub no_kind : (bytes : List ℕ) → IsNumber bytes → ((value : ℕ) → IsDecimal bytes value → ⊥) → (kind : Kind) → HasKind bytes kind → ⊥
+unfolding KindIs
+no_kind bytes number none kind h = by (kind_is bytes kind h)
+  where
+    by : KindIs bytes kind → ⊥
+    by (inl p) = word_no_number bytes p.0 number
+    by (inr (inl p)) = none p.0 p.2
+    by (inr (inr p)) = number_no_punctuator bytes number p.0
+
 module _ (line place : ℕ) (text : List ℕ) where
   pub next_solid : {token : Lexeme} {rest : List ℕ} → (n : IsNext line place text token rest) → IsSolid (n.bytes ++ rest)
   next_solid {rest = rest} n = solid_more n.bytes rest (lexeme_solid n.bytes (kind_lexeme n.bytes n.kind n.has_kind))

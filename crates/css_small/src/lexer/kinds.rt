@@ -54,7 +54,9 @@ pub(super) fn token_kind(alloc: Global, bytes: &[u8]) -> Result<TokenKind, Unspe
     match class_at(bytes) {
         Class::Word => Ok(TokenKind::Word(copied(alloc, bytes)?)),
         Class::Number => {
-            let value = decimal(bytes).ok_or(Unspelled::NotSpelled)?;
+            let Some(value) = decimal(bytes) else {
+                return Err(Unspelled::NotSpelled);
+            };
             Ok(TokenKind::Number { kind: IntType::Int, value })
         }
         Class::Punctuator => Ok(TokenKind::Punctuator(copied(alloc, bytes)?)),
