@@ -4,3 +4,4 @@ pub mod Openings
 pub mod Uniqueness
 pub mod Longest
 pub mod Decimals
+pub mod Steps

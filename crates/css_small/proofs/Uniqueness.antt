@@ -103,7 +103,7 @@ module _ (line place : ℕ) (text : List ℕ) where
       (cc, cut.2)
 
 -- Where a token is next, the text isn't blank to its end.
-blank_solid : (blanks body : List ℕ) → IsSolid body → All IsBlank (blanks ++ body) → ⊥
+pub blank_solid : (blanks body : List ℕ) → IsSolid body → All IsBlank (blanks ++ body) → ⊥
 blank_solid [] [] s h = s
 blank_solid [] (b ∷ body) s h = s (All-head IsBlank b body h)
 blank_solid (a ∷ blanks) body s h = blank_solid blanks body s (All-tail IsBlank a (blanks ++ body) h)

@@ -38,7 +38,9 @@ fn next_token(alloc: Global, text: &[u8], line: Line, place: u32) -> Result<Opti
     if rest.is_empty() {
         return Ok(None);
     }
-    let length = lexeme_length(rest).ok_or(Unspelled::NotSpelled)?;
+    let Some(length) = lexeme_length(rest) else {
+        return Err(Unspelled::NotSpelled);
+    };
     let kind = token_kind(alloc, &rest[..length])?;
     let line = Line::new(line.number() + newline_count(blanks) as u32);
     let place = place + blanks.len() as u32;
