@@ -2,3 +2,10 @@ pub mod FrontKinds
 pub mod Productions
 pub mod Puts
 pub mod Trees
+pub mod Cuts
+pub mod Tables
+pub mod Openings
+pub mod Uniqueness
+pub mod Longest
+pub mod Decimals
+pub mod Steps
