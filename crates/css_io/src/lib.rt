@@ -17,6 +17,8 @@ mod std_source;
 mod sure_shelf;
 mod sure_sink;
 mod sure_source;
+#[cfg(test)]
+mod tests;
 mod writing;
 
 pub use failed::Failed;

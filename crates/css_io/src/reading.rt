@@ -43,6 +43,7 @@ pub fn read_all<I: Source>(alloc: Global, input: &mut I, limit: usize) -> Result
     ensures too_long { IsErrOf result ReadFault.TooLong ↔ (I.taken input.old + limit < I.taken input.new) }
     ensures failed { IsErrOf result ReadFault.Failed → Rose (I.faults input.old) (I.faults input.new) }
     ensures never_falls { I.faults input.old ≤ I.faults input.new }
+    ensures grows { I.taken input.old ≤ I.taken input.new }
     ensures no_more { I.taken input.new ≤ I.taken input.old + limit + 1 }
 {
     let mut piece = new_piece(alloc, limit.saturating_add(1))?;
@@ -83,6 +84,7 @@ fn append_next<I: Source>(
     ensures too_long { IfErr result (λ fault. (fault ≡ ReadFault.TooLong) ↔ (I.taken input.old + limit < I.taken input.new)) }
     ensures failed { IfErr result (λ fault. fault ≡ ReadFault.Failed → Rose (I.faults input.old) (I.faults input.new)) }
     ensures never_falls { I.faults input.old ≤ I.faults input.new }
+    ensures grows { I.taken input.old ≤ I.taken input.new }
     ensures no_more { I.taken input.new ≤ I.taken input.old + length part.old }
 {
     let Ok(count) = input.read(part) else {

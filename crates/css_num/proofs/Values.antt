@@ -1,5 +1,6 @@
 -- The value of each operator is in the range of its type.
-use Rattle.std.proofs.Common.{ℕ, zero, suc, ◌-◌, ◌%◌, ◌-ℤ◌, ◌^◌, ◌<◌, ◌≡◌, refl, ap, ◌∙◌, ℤ, pos, negsuc, arith, Bool, true, false, Some, None, IfSome, IsTrue, if◌then◌else◌, bit_and, bit_or, bit_xor, int_eq}
+use Rattle.std.specs.Result.{result_ok}
+use Rattle.std.proofs.Common.{subst, sym, Option, Result, Ok, Err, IfOk, ℕ, zero, suc, ◌-◌, ◌%◌, ◌-ℤ◌, ◌^◌, ◌<◌, ◌≡◌, refl, ap, ◌∙◌, ℤ, pos, negsuc, arith, Bool, true, false, Some, None, IfSome, IsTrue, if◌then◌else◌, bit_and, bit_or, bit_xor, int_eq}
 use Rattle.std.proofs.lemmas.Int.{ints}
 use Rattle.std.proofs.lemmas.Nat.{pow_pos, mod_below, and_le_l, or_lt, xor_lt}
 use Rattle.css_base.specs.declared.int_type.IntType.{IntType}
@@ -53,6 +54,21 @@ binary_in_range binary.Le t a b h = truth_in_range _
 binary_in_range binary.Ge t a b h = truth_in_range _
 binary_in_range binary.Eq t a b h = truth_in_range _
 binary_in_range binary.Ne t a b h = truth_in_range _
+
+-- and so what the code returns
+pub unary_result_in_range : (op : UnOp) (t : IntType) (v r : ℤ) → r ≡ unary_value op t v → IsInRange t v → IsInRange (unary_type op t) r
+unary_result_in_range op t v r is h =
+    let P : ℤ → Type 0 = IsInRange (unary_type op t) in
+    subst P (sym is) (unary_in_range op t v h)
+
+pub binary_result_in_range : (op : BinOp) (t : IntType) (a b r : ℤ) → Some r ≡ binary_value op t a b → IsInRange t a → IsInRange (binary_type op t) r
+binary_result_in_range op t a b r is h =
+    let P : Option ℤ → Type 0 = λ o. IfSome o (IsInRange (binary_type op t)) in
+    subst P (sym is) (binary_in_range op t a b h)
+
+pub division_in_range : {E : Type 0} (op : BinOp) (t : IntType) (a b : ℤ) (r : Result ℤ E) → result_ok r ≡ binary_value op t a b → IsInRange t a → IfOk r (IsInRange (binary_type op t))
+division_in_range op t a b (Ok v) is h = binary_result_in_range op t a b v is h
+division_in_range op t a b (Err e) is h = tt
 
 -- ---- the least value over -1
 

@@ -1,7 +1,7 @@
 //! Conversion to a type.
 
 ghost use Rattle.std.specs.Prelude.{◌≡◌, ◌≤◌, ◌<◌, ◌^◌};
-ghost use Rattle.css_num.specs.Types.{bits_of};
+ghost use Rattle.css_num.specs.Types.{bits_of, IsInRange};
 ghost use Rattle.css_num.specs.Conversion.{modulo, representation, represented, converted};
 
 use crate::types::{bits, half, is_signed};
@@ -9,7 +9,8 @@ use css_base::IntType;
 
 /// The value modulo 2 to the type's bits, read as signed where the type is (C99 6.3.1.3).
 pub fn convert(v: i128, to: IntType) -> i128
-    ensures { result ≡ converted to v }
+    ensures value { result ≡ converted to v }
+    ensures in_range { IsInRange to result }
 {
     from_bits(to_bits(v, to), to)
 }

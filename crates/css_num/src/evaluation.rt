@@ -1,9 +1,9 @@
 //! The values of the operators.
 
-ghost use Rattle.std.specs.Prelude.{◌≡◌, ◌↔◌, pos, IsTrue, IsErr};
+ghost use Rattle.std.specs.Prelude.{◌≡◌, ◌↔◌, pos, IsTrue, IfOk, IsErr};
 ghost use Rattle.std.specs.Result.{result_ok};
 ghost use Rattle.css_num.specs.Types.{IsInRange};
-ghost use Rattle.css_num.specs.Operators.{truth_value, unary_value, binary_value, is_division, IsRightOperand};
+ghost use Rattle.css_num.specs.Operators.{truth_value, unary_type, unary_value, binary_type, binary_value, is_division, IsRightOperand};
 
 use crate::arithmetic::{
     complement_of, difference_of, negative_of, product_of, quotient_of, remainder_of, sum_of,
@@ -17,7 +17,8 @@ use css_base::IntType;
 /// the `int` 0 or 1.
 pub fn unary(op: UnOp, t: IntType, v: i128) -> i128
     requires { IsInRange t v }
-    ensures { result ≡ unary_value op t v }
+    ensures value { result ≡ unary_value op t v }
+    ensures in_range { IsInRange (unary_type op t) result }
 {
     match op {
         UnOp::Plus => v,
@@ -35,6 +36,7 @@ pub fn binary(op: BinOp, t: IntType, a: i128, b: i128) -> Result<i128, DivideByZ
     requires left { IsInRange t a }
     requires right { IsRightOperand op t b }
     ensures value { result_ok result ≡ binary_value op t a b }
+    ensures in_range { IfOk result (IsInRange (binary_type op t)) }
     ensures divide_by_zero { IsErr result ↔ (IsTrue (is_division op) × (b ≡ pos 0)) }
 {
     match op {

@@ -8,4 +8,4 @@ use Rattle.css_num.proofs.arithmetic.negative_of.Goals as goal
 pub returns : goal.returns
 returns c =
     let first = wide c.args.t c.args.v c.requires in
-    read_converted c.args.t _ _ _ c.convert.ensures (ap (converted c.args.t) (omega (arith, ints)))
+    read_converted c.args.t _ _ _ c.convert.ensures.value (ap (converted c.args.t) (omega (arith, ints)))

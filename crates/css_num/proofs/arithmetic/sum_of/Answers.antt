@@ -9,4 +9,4 @@ pub returns : goal.returns
 returns c =
     let first = wide c.args.t c.args.a c.requires.left in
     let second = wide c.args.t c.args.b c.requires.right in
-    read_converted c.args.t _ _ _ c.convert.ensures (ap (converted c.args.t) (omega (arith, ints)))
+    read_converted c.args.t _ _ _ c.convert.ensures.value (ap (converted c.args.t) (omega (arith, ints)))

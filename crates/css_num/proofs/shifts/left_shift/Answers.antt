@@ -10,5 +10,5 @@ use Rattle.css_num.proofs.shifts.left_shift.Goals as goal
 pub returns : goal.returns
 returns c =
     let count = c.shift_count.ensures.value ∙ ap (count_of c.args.t) (to_z-of_z w128 c.args.b c.ranges.b) in
-    read_converted c.args.t _ _ _ c.convert.ensures
+    read_converted c.args.t _ _ _ c.convert.ensures.value
     (converted-shl c.args.t c.args.a c.shift_count.result c.ranges.a ∙ ap (λ (k : ℕ). converted c.args.t (c.args.a *ℤ pos (2 ^ k))) count)

@@ -1,0 +1,11 @@
+pub mod Exec
+pub mod Sinks
+pub mod Turns
+pub mod Programs
+pub mod Words
+pub mod Ints
+pub mod Endings
+pub mod Runs
+pub mod OneAnswer
+pub mod Texts
+pub mod Clauses

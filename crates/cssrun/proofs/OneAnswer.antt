@@ -1,0 +1,59 @@
+-- Words and a text have one answer.
+use Rattle.std.proofs.Common.{◌≡◌, ℕ, ◌+◌, ◌<◌, ◌≤◌, ◌⊎◌, inl, inr, List, [], ◌∷◌, length, Option, Some, None, refl, sym, ap, ◌∙◌, subst, arith}
+use Rattle.css_base.specs.declared.static_fault.StaticName.TheVariants as names
+use Rattle.css_small.specs.Tree.{Program}
+use Rattle.css_small.specs.Grammar.{Spells, IsNotBuilt}
+use Rattle.cssrun.specs.Request.{Asks, AreRefused}
+use Rattle.cssrun.specs.Answer.{Answer, IsRunAnswer, IsTextAnswer, Refused, Ended, IsAnswer, WordsRefused, Asked, static_line, memory}
+use Rattle.cssrun.proofs.Programs.{source_goes}
+use Rattle.cssrun.proofs.Runs.{answer_from, run_answer_is, run_answer_status}
+
+-- what a text that isn't of the part that is built answers
+abbrev pub not_built : Answer
+not_built = record { out = []; report = static_line names.NotBuilt 1; status = 3 }
+
+-- a text of the part that is built spells a program and isn't too long
+pub is_built : (text : List ℕ) (p : Program) → length text ≤ 4194304 → Spells text p → IsNotBuilt text → ⊥
+is_built text p short spells (inl long) = absurd (omega arith)
+is_built text p short spells (inr none) = none p spells
+
+pub not_built_is : (text : List ℕ) → IsNotBuilt text → (a : Answer) → IsTextAnswer text a → a ≡ not_built
+not_built_is text not a (Refused also is) = is
+not_built_is text not a (Ended p short spells run) = absurd (is_built text p short spells not)
+
+-- words name one file
+pub one_file : (words : List (List ℕ)) (file other : List ℕ) → Asks words file → Asks words other → file ≡ other
+one_file words file other one two =
+    let same : one.program ∷ _ ∷ file ∷ [] ≡ two.program ∷ _ ∷ other ∷ [] = sym one.are ∙ two.are in
+    cc
+
+abbrev pub OnlyOneProgram : Type 0
+OnlyOneProgram = (text : List ℕ) (p q : Program) → Spells text p → Spells text q → p ≡ q
+
+-- a text that spells a program has the answer of its run
+pub run_answer_of : OnlyOneProgram → (text : List ℕ) (p : Program) → length text ≤ 4194304 → Spells text p → (a : Answer) → IsTextAnswer text a → IsRunAnswer p a
+run_answer_of only text p short spells a (Refused not is) = absurd (is_built text p short spells not)
+run_answer_of only text p short spells a (Ended q short' spells' run) = subst (λ x. IsRunAnswer x a) (only text q p spells' spells) run
+
+one_text_answer : OnlyOneProgram → (text : List ℕ) (a b : Answer) → IsTextAnswer text a → IsTextAnswer text b → a ≡ b
+one_text_answer only text a b (Refused not is) other = is ∙ sym (not_built_is text not b other)
+one_text_answer only text a b (Ended p short spells run) other =
+    let goes = source_goes memory p in
+    run_answer_is p _ goes.0 goes.1 a run ∙ sym (run_answer_is p _ goes.0 goes.1 b (run_answer_of only text p short spells b other))
+
+-- words and a text have at most one answer
+pub one_answer_lem : OnlyOneProgram → (words : List (List ℕ)) (text : List ℕ) (a b : Answer) → IsAnswer words text a → IsAnswer words text b → a ≡ b
+one_answer_lem only words text a b (WordsRefused refused is) (WordsRefused refused' is') = is ∙ sym is'
+one_answer_lem only words text a b (WordsRefused refused is) (Asked file asks answer) = absurd (refused file asks)
+one_answer_lem only words text a b (Asked file asks answer) (WordsRefused refused is) = absurd (refused file asks)
+one_answer_lem only words text a b (Asked file asks answer) (Asked file' asks' answer') = one_text_answer only text a b answer answer'
+
+-- the status of a text's answer
+pub text_answer_status : (text : List ℕ) (a : Answer) → IsTextAnswer text a → (a.status ≡ 3) ⊎ (a.status ≤ 1)
+text_answer_status text a (Refused not is) = inl (ap (λ (x : Answer). x.status) is)
+text_answer_status text a (Ended p short spells run) = inr (run_answer_status p a run)
+
+-- the status of an answer
+pub answer_status : (words : List (List ℕ)) (text : List ℕ) (a : Answer) → IsAnswer words text a → a.status ≤ 3
+answer_status words text a (WordsRefused refused is) = let e : a.status ≡ 2 = ap (λ (x : Answer). x.status) is in omega arith
+answer_status words text a (Asked file asks answer) = elim (text_answer_status text a answer) [ inl e ↦ omega arith | inr e ↦ omega arith ]

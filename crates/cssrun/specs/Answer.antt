@@ -1,0 +1,90 @@
+-- What the program answers: a definition for all words and files.
+use Rattle.std.specs.Prelude.{◌≡◌, ℕ, zero, ℤ, pos, negsuc, ◌≤◌, List, [], ◌∷◌, ◌++◌, length, codes}
+use Rattle.std.specs.Fmt.{decimal, signed_decimal}
+use Rattle.css_base.specs.declared.static_fault.StaticName.{StaticName}
+use Rattle.css_base.specs.declared.static_fault.StaticName.TheVariants as names
+use Rattle.css_base.specs.declared.ending.Ending.{Ending}
+use Rattle.css_base.specs.declared.ending.Ending.TheVariants as endings
+use Rattle.css_base.specs.declared.ending.Stop.{Stop}
+use Rattle.css_base.specs.declared.ending.Stop.TheVariants as stops
+use Rattle.css_base.specs.declared.ending.Who.{Who}
+use Rattle.css_base.specs.declared.ending.Who.TheVariants as whose
+use Rattle.css_base.specs.Labels.{static_label, rule_label, fault_label}
+use Rattle.css_semantics.specs.Dialogue.{Tape, Goes, output}
+use Rattle.css_semantics.specs.Flat.{flat}
+use Rattle.css_small.specs.Tree.{Program}
+use Rattle.css_small.specs.Grammar.{Spells, IsNotBuilt}
+use Rattle.css_small_code.specs.Meaning.{source}
+use Rattle.cssrun.specs.Request.{Asks, AreRefused}
+
+-- The bytes of standard output and of the report, and the status.
+pub record Answer : Type 0 where
+  pub out : List ℕ
+  pub report : List ℕ
+  pub status : ℕ
+
+abbrev pub words_refused : List ℕ
+words_refused = codes "words refused\n"
+
+abbrev pub read_fault : List ℕ
+read_fault = codes "read fault\n"
+
+abbrev pub no_memory : List ℕ
+no_memory = codes "no memory\n"
+
+-- The report of a static rule that is broken, in a line.
+abbrev pub static_line : StaticName → ℕ → List ℕ
+static_line name line = codes "static " ++ static_label name ++ codes " line " ++ decimal line ++ codes "\n"
+
+-- Whose event a stop is.
+abbrev pub who_words : Who → List ℕ
+who_words whose.Main = codes "main"
+who_words (whose.Task number) = codes "task " ++ decimal number
+
+abbrev pub stop_words : Stop → List ℕ
+stop_words (stops.Fault kind) = codes "fault " ++ fault_label kind
+stop_words (stops.Rule rule) = codes "rule " ++ rule_label rule
+
+-- The report of an ending.
+abbrev pub ending_line : Ending → List ℕ
+ending_line (endings.Result result) = codes "result " ++ signed_decimal result ++ codes "\n"
+ending_line (endings.Stopped s line w) = stop_words s ++ codes " line " ++ decimal line ++ codes " " ++ who_words w ++ codes "\n"
+
+abbrev pub stop_status : Stop → ℕ
+stop_status (stops.Fault kind) = 4
+stop_status (stops.Rule rule) = 5
+
+-- The status of an ending: 0 at the result 0, 1 at another, 4 at a fault, 5 at a rule.
+abbrev pub ending_status : Ending → ℕ
+ending_status (endings.Result (pos zero)) = 0
+ending_status (endings.Result _) = 1
+ending_status (endings.Stopped s line w) = stop_status s
+
+-- The bytes of main's memory: no option says otherwise.
+abbrev pub memory : ℕ
+memory = 16777216
+
+-- What a program does in the flat memory: its output and its ending.
+pub record Runs (p : Program) (out : List ℕ) (ending : Ending) : Type 0 where
+  pub result : ℤ
+  pub tape : Tape
+  pub goes : source (flat memory) p ≡ Goes result tape
+  pub out_is : out ≡ output tape
+  pub ending_is : ending ≡ endings.Result result
+
+-- The answer of a program's run.
+pub record IsRunAnswer (p : Program) (a : Answer) : Type 0 where
+  pub ending : Ending
+  pub runs : Runs p a.out ending
+  pub report_is : a.report ≡ ending_line ending
+  pub status_is : a.status ≡ ending_status ending
+
+-- The answer to a text: S0 with line 1 where it isn't of the part of the language that is built, and else what its run gives.
+pub data IsTextAnswer (text : List ℕ) (a : Answer) : Type 0 where
+  Refused : IsNotBuilt text → a ≡ record { out = []; report = static_line names.NotBuilt 1; status = 3 } → IsTextAnswer text a
+  Ended : (p : Program) → length text ≤ 4194304 → Spells text p → IsRunAnswer p a → IsTextAnswer text a
+
+-- The answer to words, where the file that they name has this text.
+pub data IsAnswer (words : List (List ℕ)) (text : List ℕ) (a : Answer) : Type 0 where
+  WordsRefused : AreRefused words → a ≡ record { out = []; report = words_refused; status = 2 } → IsAnswer words text a
+  Asked : (file : List ℕ) → Asks words file → IsTextAnswer text a → IsAnswer words text a
