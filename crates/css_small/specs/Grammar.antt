@@ -30,8 +30,12 @@ put number = Word (codes "putchar") ∷ Punctuator (codes "(") ∷ Number types.
 abbrev pub return : ℕ → List Kind
 return number = Word (codes "return") ∷ Number types.Int number ∷ Punctuator (codes ";") ∷ []
 
+-- A value of type int that a constant spells.
+abbrev pub IsInt : ℕ → Type 0
+IsInt number = number ≤ 2147483647
+
 abbrev pub SpellsPut : List Lexeme → Statement → Type 0
-SpellsPut tokens s = Are tokens (put s.number) s.line
+SpellsPut tokens s = Are tokens (put s.number) s.line × IsInt s.number
 
 abbrev pub SpellsPuts : List Lexeme → List Statement → Type 0
 SpellsPuts tokens [] = tokens ≡ []
@@ -39,7 +43,7 @@ SpellsPuts tokens (s ∷ puts) =
     (front : List Lexeme) × (rest : List Lexeme) × (tokens ≡ front ++ rest) × SpellsPut front s × SpellsPuts rest puts
 
 abbrev pub SpellsReturn : List Lexeme → Statement → Type 0
-SpellsReturn tokens s = Are tokens (return s.number) s.line
+SpellsReturn tokens s = Are tokens (return s.number) s.line × IsInt s.number
 
 pub record SpellsProgram (tokens : List Lexeme) (p : Program) : Type 0 where
   pub head : List Lexeme

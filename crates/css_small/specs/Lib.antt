@@ -2,3 +2,4 @@ pub mod Tree
 pub mod Spelling
 pub mod Grammar
 pub mod Refusal
+pub mod Fronts

@@ -2,6 +2,7 @@
 #![tactic(auto)]
 
 mod front;
+mod front_token;
 mod lexer;
 mod parser;
 mod tree;

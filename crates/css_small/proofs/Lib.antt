@@ -1,0 +1,2 @@
+pub mod FrontKinds
+pub mod Productions
