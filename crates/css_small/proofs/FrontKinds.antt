@@ -1,5 +1,6 @@
 -- Tokens of some kinds at the front of a list, one after another.
-use Rattle.std.proofs.Common.{◌≡◌, ℕ, List, [], ◌∷◌, ◌++◌, map, refl, sym, ap, ◌∙◌}
+use Rattle.std.proofs.Common.{◌≡◌, List, [], ◌∷◌, ◌++◌, map, length, refl, sym, ap, ◌∙◌, arith}
+use Rattle.std.proofs.lemmas.List.{length-map}
 use Rattle.css_base.specs.Tokens.{Kind, Lexeme}
 use Rattle.css_small.specs.Grammar.{Are, kind_at, first_line}
 use Rattle.css_small.specs.Fronts.{Begins, HaveKinds, HasNext}
@@ -60,3 +61,30 @@ first_line-front {kind} {kinds} {tokens} {rest} b = first_line_in kind kinds b.f
 -- no kinds take no tokens
 pub none_left : (tokens : List Lexeme) → Begins HaveKinds tokens [] tokens
 none_left tokens = record { front = []; parts = refl; spells = refl }
+
+-- two fronts of one length
+pub same_parts : {X : Type 0} (a b x y : List X) → length a ≡ length b → a ++ x ≡ b ++ y → (a ≡ b) × (x ≡ y)
+same_parts [] [] x y len e = (refl, e)
+same_parts [] (t ∷ ts) x y len e = absurd (omega arith)
+same_parts (s ∷ ss) [] x y len e = absurd (omega arith)
+same_parts (s ∷ ss) (t ∷ ts) x y len e =
+    let rest = same_parts ss ts x y (omega arith) (cc) in
+    let head : s ≡ t = cc in
+    (ap (λ u. u ∷ ss) head ∙ ap (λ us. t ∷ us) rest.0, rest.1)
+
+-- fronts of as many kinds are one front
+pub kinds_same : {kinds others : List Kind} {tokens rest behind : List Lexeme} (b : Begins HaveKinds tokens kinds rest) (d : Begins HaveKinds tokens others behind) → length kinds ≡ length others → (b.front ≡ d.front) × (rest ≡ behind)
+kinds_same {kinds} {others} {tokens} {rest} {behind} b d len =
+    let one : length b.front ≡ length kinds = sym (length-map b.front kind_at) ∙ ap length b.spells in
+    let other : length d.front ≡ length others = sym (length-map d.front kind_at) ∙ ap length d.spells in
+    same_parts b.front d.front rest behind (one ∙ len ∙ sym other) (sym b.parts ∙ d.parts)
+
+-- the first kinds of two fronts
+pub first_kinds_same : {kind other : Kind} {kinds others : List Kind} {tokens rest behind : List Lexeme} → Begins HaveKinds tokens (kind ∷ kinds) rest → Begins HaveKinds tokens (other ∷ others) behind → kind ≡ other
+first_kinds_same {kind} {other} {kinds} {others} b d =
+    let n = first_of b in
+    let m = first_of d in
+    let same = kinds_same n.1 m.1 refl in
+    let e : map kind_at n.1.front ≡ map kind_at m.1.front = ap (map kind_at) same.0 in
+    let f : kind ∷ [] ≡ other ∷ [] = sym n.1.spells ∙ e ∙ m.1.spells in
+    cc

@@ -1,2 +1,4 @@
 pub mod FrontKinds
 pub mod Productions
+pub mod Puts
+pub mod Trees

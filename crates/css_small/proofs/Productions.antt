@@ -6,13 +6,13 @@ use Rattle.css_small.specs.Grammar.{opening, put, return, IsInt, first_line, Spe
 use Rattle.css_small.specs.Fronts.{Begins, HaveKinds, SpellsOpening}
 use Rattle.css_small.proofs.FrontKinds.{first_line-front}
 
-pub opening_kinds : {line : ℕ} {tokens rest : List Lexeme} → Begins SpellsOpening tokens line rest → Begins HaveKinds tokens opening rest
+abbrev pub opening_kinds : {line : ℕ} {tokens rest : List Lexeme} → Begins SpellsOpening tokens line rest → Begins HaveKinds tokens opening rest
 opening_kinds b = record { front = b.front; parts = b.parts; spells = b.spells.0 }
 
 pub opening_from_kinds : {line : ℕ} {tokens rest : List Lexeme} → Begins HaveKinds tokens opening rest → first_line tokens ≡ line → Begins SpellsOpening tokens line rest
 opening_from_kinds b at = record { front = b.front; parts = b.parts; spells = (b.spells, first_line-front b ∙ at) }
 
-pub put_kinds : {s : Statement} {tokens rest : List Lexeme} → Begins SpellsPut tokens s rest → Begins HaveKinds tokens (put s.number) rest
+abbrev pub put_kinds : {s : Statement} {tokens rest : List Lexeme} → Begins SpellsPut tokens s rest → Begins HaveKinds tokens (put s.number) rest
 put_kinds b = record { front = b.front; parts = b.parts; spells = b.spells.0.0 }
 
 pub put_range : {s : Statement} {tokens rest : List Lexeme} → Begins SpellsPut tokens s rest → IsInt s.number
@@ -21,7 +21,7 @@ put_range b = b.spells.1
 pub put_from_kinds : {s : Statement} {tokens rest : List Lexeme} → Begins HaveKinds tokens (put s.number) rest → first_line tokens ≡ s.line → IsInt s.number → Begins SpellsPut tokens s rest
 put_from_kinds b at fits = record { front = b.front; parts = b.parts; spells = ((b.spells, first_line-front b ∙ at), fits) }
 
-pub return_kinds : {s : Statement} {tokens rest : List Lexeme} → Begins SpellsReturn tokens s rest → Begins HaveKinds tokens (return s.number) rest
+abbrev pub return_kinds : {s : Statement} {tokens rest : List Lexeme} → Begins SpellsReturn tokens s rest → Begins HaveKinds tokens (return s.number) rest
 return_kinds b = record { front = b.front; parts = b.parts; spells = b.spells.0.0 }
 
 pub return_range : {s : Statement} {tokens rest : List Lexeme} → Begins SpellsReturn tokens s rest → IsInt s.number

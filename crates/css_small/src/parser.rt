@@ -1,5 +1,5 @@
 //! From tokens to the tree.
-ghost use Rattle.std.specs.Prelude.{◌≡◌, ℕ, List, [], ◌∷◌, map, codes, IsTrue, ◌↔◌, IfOk, IsErrOf, IfSome, IfNone};
+ghost use Rattle.std.specs.Prelude.{◌≡◌, ℕ, List, [], ◌∷◌, map, codes, IsTrue, ◌↔◌, IfOk, IfErr, IsErrOf, IfSome, IfNone};
 ghost use Rattle.css_base.specs.Tokens.{Punctuator, Lexeme, lexemes};
 ghost use Rattle.css_small.specs.Tree.{Program, program, statement};
 ghost use Rattle.css_small.specs.Grammar.{SpellsProgram, SpellsPut, SpellsPuts, SpellsReturn, kind_at};
@@ -9,26 +9,26 @@ use crate::front_token::{after_punctuator, after_word, constant_of, first_line, 
 use crate::tree::{self, Statement};
 use crate::unspelled::Unspelled;
 use css_base::{Line, Token};
-use std::alloc::{AllocError, Global};
+use std::alloc::Global;
 
 /// The program that tokens spell. `NotSpelled` comes only where they spell none.
 pub(crate) fn parse(alloc: Global, tokens: &[Token]) -> Result<tree::Program, Unspelled>
     ensures ok { IfOk result (λ p. SpellsProgram (lexemes tokens.now) (program p)) }
     ensures not_spelled { IsErrOf result Unspelled.NotSpelled → (p : Program) → SpellsProgram (lexemes tokens.now) p → ⊥ }
 {
-    let Some((line, statements)) = opening_of(tokens) else {
+    let Some(opening) = opening_of(tokens) else {
         return Err(Unspelled::NotSpelled);
     };
-    let Ok((puts, end)) = puts_of(alloc, statements) else {
-        return Err(Unspelled::NoMemory);
-    };
+    let (line, statements) = opening;
+    let (puts, end) = puts_of(alloc, statements)?;
     let Some((result, tail)) = return_of(end) else {
         return Err(Unspelled::NotSpelled);
     };
-    if !is_closing(tail) {
-        return Err(Unspelled::NotSpelled);
+    if is_closing(tail) {
+        Ok(tree::Program { line, puts, result })
+    } else {
+        Err(Unspelled::NotSpelled)
     }
-    Ok(tree::Program { line, puts, result })
 }
 
 /// Tokens spell at most one program.
@@ -51,15 +51,18 @@ fn opening_of(tokens: &[Token]) -> Option<(Line, &[Token])>
     Some((line, rest))
 }
 
-/// The puts at the front, as many as there are, and the tokens behind them.
-fn puts_of(alloc: Global, tokens: &[Token]) -> Result<(Vec<Statement>, &[Token]), AllocError>
+/// The puts at the front, as many as there are, and the tokens behind them. The only error is `NoMemory`.
+fn puts_of(alloc: Global, tokens: &[Token]) -> Result<(Vec<Statement>, &[Token]), Unspelled>
     ensures taken { IfOk result (λ x. Begins SpellsPuts (lexemes tokens.now) (map statement x.0.items) (lexemes x.1.now)) }
     ensures all { IfOk result (λ x. BeginsNone SpellsPut (lexemes x.1.now)) }
+    ensures err { IfErr result (λ e. e ≡ Unspelled.NoMemory) }
 {
     let mut puts = Vec::new(alloc);
     let mut rest = tokens;
     while let Some((put, others)) = put_of(rest) {
-        puts.push(put)?;
+        if puts.push(put).is_err() {
+            return Err(Unspelled::NoMemory);
+        }
         rest = others;
     }
     Ok((puts, rest))
