@@ -26,7 +26,11 @@ pub(crate) fn after_word<'a>(tokens: &'a [Token], word: &[u8]) -> Option<&'a [To
     ensures none { IfNone result ((rest : List Lexeme) → HasNext (Word word.now) (lexemes tokens.now) rest → ⊥) }
 {
     let (token, rest) = tokens.split_first()?;
-    if is_word(token, word) { Some(rest) } else { None }
+    if is_word(token, word) {
+        Some(rest)
+    } else {
+        None
+    }
 }
 
 /// The tokens behind this punctuator.
@@ -37,7 +41,11 @@ pub(crate) fn after_punctuator<'a>(tokens: &'a [Token], punctuator: &[u8]) -> Op
         ((rest : List Lexeme) → HasNext (Punctuator punctuator.now) (lexemes tokens.now) rest → ⊥) }
 {
     let (token, rest) = tokens.split_first()?;
-    if is_punctuator(token, punctuator) { Some(rest) } else { None }
+    if is_punctuator(token, punctuator) {
+        Some(rest)
+    } else {
+        None
+    }
 }
 
 /// The value of a constant of type int, and the tokens behind it.
@@ -78,7 +86,10 @@ fn int_value(token: &Token) -> Option<u32>
     ensures none { IfNone result ((number : ℕ) → IsInt number → kind_at (lexeme token.now) ≡ Number IntType.Int number → ⊥) }
 {
     match &token.kind {
-        TokenKind::Number { kind: IntType::Int, value } if *value <= GREATEST_INT => Some(*value as u32),
+        TokenKind::Number {
+            kind: IntType::Int,
+            value,
+        } if *value <= GREATEST_INT => Some(*value as u32),
         _ => None,
     }
 }

@@ -77,8 +77,8 @@ fn put_of(tokens: &[Token]) -> Option<(Statement, &[Token])>
     let rest = after_word(tokens, b"putchar")?;
     let rest = after_punctuator(rest, b"(")?;
     let (number, rest) = constant_of(rest)?;
-    let rest = after_punctuator(rest, b")")?;
-    let rest = after_punctuator(rest, b";")?;
+    let semicolon = after_punctuator(rest, b")")?;
+    let rest = after_punctuator(semicolon, b";")?;
     Some((Statement { number, line }, rest))
 }
 
@@ -103,3 +103,6 @@ fn is_closing(tokens: &[Token]) -> bool
         _ => false,
     }
 }
+
+#[cfg(test)]
+mod tests;

@@ -18,16 +18,16 @@ returns-in_err-number-clause-none c =
     rw c.from_residual-in_err-number.ensures
     (λ s rest b. c.in_err-number.ensures.none s.number _ (put_range b) (first_of (behind c.in_ok-rest-2.ensures.found (behind c.in_ok-rest.ensures.found (put_kinds b)))).1)
 
+pub returns-in_err-semicolon-clause-none : goal.returns-in_err-semicolon-clause-none
+returns-in_err-semicolon-clause-none c =
+    rw c.from_residual-in_err-semicolon.ensures
+    (λ x rest b. c.in_err-semicolon.ensures.none _ (first_of (behind c.in_ok-number.ensures.found (behind c.in_ok-rest-2.ensures.found (behind c.in_ok-rest.ensures.found (put_kinds b))))).1)
+
 pub returns-in_err-rest-3-clause-none : goal.returns-in_err-rest-3-clause-none
 returns-in_err-rest-3-clause-none c =
     rw c.from_residual-in_err-rest-3.ensures
-    (λ x rest b. c.in_err-rest-3.ensures.none _ (first_of (behind c.in_ok-number.ensures.found (behind c.in_ok-rest-2.ensures.found (behind c.in_ok-rest.ensures.found (put_kinds b))))).1)
-
-pub returns-in_err-rest-4-clause-none : goal.returns-in_err-rest-4-clause-none
-returns-in_err-rest-4-clause-none c =
-    rw c.from_residual-in_err-rest-4.ensures
-    (λ x rest b. c.in_err-rest-4.ensures.none _ (first_of (behind c.in_ok-rest-3.ensures.found (behind c.in_ok-number.ensures.found (behind c.in_ok-rest-2.ensures.found (behind c.in_ok-rest.ensures.found (put_kinds b)))))).1)
+    (λ x rest b. c.in_err-rest-3.ensures.none _ (first_of (behind c.in_ok-semicolon.ensures.found (behind c.in_ok-number.ensures.found (behind c.in_ok-rest-2.ensures.found (behind c.in_ok-rest.ensures.found (put_kinds b)))))).1)
 
 pub returns-clause-found : goal.returns-clause-found
 returns-clause-found c =
-    put_from_kinds (ahead c.in_ok-rest.ensures.found (ahead c.in_ok-rest-2.ensures.found (ahead c.in_ok-number.ensures.found (ahead c.in_ok-rest-3.ensures.found (ahead c.in_ok-rest-4.ensures.found (none_left _)))))) c.in_ok-line.ensures.found c.in_ok-number.ensures.range
+    put_from_kinds (ahead c.in_ok-rest.ensures.found (ahead c.in_ok-rest-2.ensures.found (ahead c.in_ok-number.ensures.found (ahead c.in_ok-semicolon.ensures.found (ahead c.in_ok-rest-3.ensures.found (none_left _)))))) c.in_ok-line.ensures.found c.in_ok-number.ensures.range
