@@ -14,6 +14,8 @@ mod characters;
 mod kinds;
 mod punctuators;
 mod scan;
+#[cfg(test)]
+mod tests;
 
 /// How many newlines stand among some bytes.
 fn newline_count(bytes: &[u8]) -> usize
