@@ -1,5 +1,5 @@
 -- A program's code has the program's dialogue.
-use Rattle.std.proofs.Common.{◌≡◌, ◌≢◌, ℕ, ℤ, suc, ◌+◌, List, [], ◌∷◌, ◌++◌, length, refl, sym, ap, ◌∙◌, subst}
+use Rattle.std.proofs.Common.{◌≡◌, ◌≢◌, ℕ, ℤ, ◌+◌, List, [], ◌∷◌, ◌++◌, length, refl, sym, ap, ◌∙◌, subst}
 use Rattle.std.specs.Prelude.{Bool, true, false, nat_eq}
 use Rattle.std.proofs.lemmas.Bool.{eqb-true}
 use Rattle.css_semantics.specs.Dialogue.{Enter, Tape, World, Outcome, Goes, Stops, Reason, Over, then_do, ask}
@@ -15,14 +15,16 @@ use Rattle.css_small_code.proofs.Runs.{Runs, runs_step, runs_asks, runs_then, th
 use Rattle.css_small_code.proofs.Ends.{IsOver, Finishes, same, reached, only}
 use Rattle.css_small_code.proofs.Stands.{stands_front, stands_back, stands_whole}
 use Rattle.css_small_code.proofs.Steps.{From}
-use Rattle.css_small_code.proofs.Puts.{entry_if, entry_runs, puts_run, return_runs}
+use Rattle.css_small_code.proofs.Statements.{entry_if, entry_runs, puts_run, return_runs}
 use Rattle.css_small_code.proofs.Heights.{ranked}
 use Rattle.css_small_code.proofs.Sound.{program_heights, is_sound}
 
+-- the code of the statements begins in the line of the first
 first_statement : (puts : List Statement) (result : Statement) → first_line (puts_code puts ++ return_code result) ≡ body_line puts result
 first_statement [] result = refl
 first_statement (s ∷ puts) result = refl
 
+-- with the entry's code before it
 starts_if : (b : Bool) (line : ℕ) (rest : List Instr) → (b ≡ true → first_line rest ≡ line) → first_line (entry_if b line ++ rest) ≡ line
 starts_if true line rest h = h refl
 starts_if false line rest h = refl
@@ -45,6 +47,7 @@ body_runs w p n base t ints =
     let last = stands_back f.body (0 + length entry) puts (return_code p.result) rest in
     entry_runs w f base p.line line 0 [] t (stands_front f.body 0 entry (puts ++ return_code p.result) whole) (runs_then (puts_run w f base p.puts (0 + length entry) [] t (stands_front f.body (0 + length entry) puts (return_code p.result) rest)) (λ r t. return_runs w f base p.result (0 + length entry + length puts) [] t refl ints.result last))
 
+-- the machine follows a program
 program_runs : (w : World) (p : Program) (n : ℕ) → AreInts p → Runs n (target w (program_code p)) Finishes (source w p)
 program_runs w p n ints =
     let f = program_code p in
@@ -65,10 +68,12 @@ not_stuck (Goes u s) t e = cc
 not_stuck (Stops how s) t e = cc
 
 module _ (p : Program) (ints : AreInts p) where
+  -- the machine comes to the program's end
   comes_to : (w : World) (o : Outcome ℤ) → source w p ≡ o → (n : ℕ) × (target w (program_code p) n ≡ same o)
   comes_to w o e =
       subst (λ o. (n : ℕ) × (target w (program_code p) n ≡ same o)) e (reached w (program_code p) (source w p) (program_runs w p 0 ints))
 
+  -- an end of the machine is the program's
   comes_from : (w : World) (n : ℕ) (o : Outcome Halt) → IsOver o → target w (program_code p) n ≡ o → same (source w p) ≡ o
   comes_from w n o over e = only w (program_code p) n o (source w p) over e (program_runs w p n ints)
 

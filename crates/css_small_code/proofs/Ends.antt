@@ -1,5 +1,5 @@
 -- A run that is over stays over with more steps, so it has one end: that of the program which it follows.
-use Rattle.std.proofs.Common.{◌≡◌, ℕ, ℤ, zero, suc, ◌≤◌, List, [], sym, ◌∙◌, subst, ⊎_elim, arith}
+use Rattle.std.proofs.Common.{◌≡◌, ℕ, ℤ, zero, suc, ◌≤◌, [], sym, ◌∙◌, subst, ⊎_elim, arith}
 use Rattle.std.proofs.lemmas.Bool.{cases_lt}
 use Rattle.css_semantics.specs.Dialogue.{Tape, World, Outcome, Goes, Stops, Over, Tired, then_do}
 use Rattle.css_vm.specs.Code.{Routine}

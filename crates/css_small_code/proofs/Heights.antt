@@ -1,5 +1,5 @@
 -- Plans whose ranks are the numbers of instructions left: what is to be shown of them is of stack heights alone.
-use Rattle.std.proofs.Common.{◌≡◌, ℕ, zero, suc, ◌+◌, ◌-◌, ◌<◌, ◌≤◌, List, [], ◌∷◌, ◌++◌, length, Some, refl, sym, ap, ◌∙◌, subst, arith}
+use Rattle.std.proofs.Common.{◌≡◌, ℕ, zero, suc, ◌+◌, ◌-◌, ◌<◌, ◌≤◌, List, [], ◌∷◌, ◌++◌, length, Some, refl, ap, ◌∙◌, subst, arith}
 use Rattle.std.specs.Prelude.{slice_get}
 use Rattle.std.proofs.lemmas.Option.{same_Some, slice_get_within}
 use Rattle.css_vm.specs.declared.code.Instr.{Instr}
@@ -13,6 +13,7 @@ abbrev pub ranked : List ℕ → List Spot
 ranked [] = []
 ranked (h ∷ hs) = record { height = h; rank = length (h ∷ hs) } ∷ ranked hs
 
+-- the plan's spot at a height's place
 ranked_at : (hs : List ℕ) (place height rank : ℕ) → place + rank ≡ length hs → slice_get hs place ≡ Some height → slice_get (ranked hs) place ≡ Some (record { height = height; rank = rank })
 ranked_at [] place height rank all h = cc
 ranked_at (x ∷ hs) zero height rank all h =
@@ -20,6 +21,7 @@ ranked_at (x ∷ hs) zero height rank all h =
     ap (λ r. Some (record { height = x; rank = r })) e ∙ ap (λ y. Some (record { height = y; rank = rank })) (same_Some x height h)
 ranked_at (x ∷ hs) (suc place) height rank all h = ranked_at hs place height rank (omega arith) h
 
+-- the height at a spot's place
 height_at : (hs : List ℕ) (place : ℕ) (spot : Spot) → slice_get (ranked hs) place ≡ Some spot → (slice_get hs place ≡ Some spot.height) × (place + spot.rank ≡ length hs)
 height_at [] place spot h = cc
 height_at (x ∷ hs) zero spot h =
@@ -50,12 +52,14 @@ module _ (heights : List ℕ) where
       let e : place + length (h ∷ hs) ≡ place + 1 + length hs = omega arith in
       (a.0, both_suit (place + 1) xs ys hs ks a.1 (subst (λ p. AllSuit heights p ys ks) e b))
 
+  -- each instruction has a height
   as_many : (place : ℕ) (is : List Instr) (hs : List ℕ) → AllSuit heights place is hs → length is ≡ length hs
   as_many place [] [] a = refl
   as_many place [] (h ∷ hs) a = absurd a
   as_many place (i ∷ is) [] a = absurd a
   as_many place (i ∷ is) (h ∷ hs) a = ap suc (as_many (place + 1) is hs a.1)
 
+  -- the instruction at a height's place
   suits_at : (start : ℕ) (is : List Instr) (hs : List ℕ) (k height : ℕ) → AllSuit heights start is hs → slice_get hs k ≡ Some height → (i : Instr) × (slice_get is k ≡ Some i) × Suits heights (start + k) height i.op
   suits_at start [] [] k height a h = cc
   suits_at start [] (x ∷ hs) k height a h = absurd a
@@ -68,11 +72,13 @@ module _ (heights : List ℕ) where
       let e : start + 1 + k ≡ start + suc k = omega arith in
       (b.0, b.1, subst (λ p. Suits heights p height (b.0).op) e b.2)
 
+  -- the plan leads on where the heights do
   goes_on : (place height : ℕ) (spot : Spot) → place + spot.rank ≡ length heights → slice_get heights (place + 1) ≡ Some height → GoesOn (ranked heights) place spot height
   goes_on place height spot all h =
       let within : place + 1 < length heights = slice_get_within heights (place + 1) height h in
       (record { height = height; rank = spot.rank - 1 }, ranked_at heights (place + 1) height (spot.rank - 1) (omega arith) h, refl, omega arith)
 
+  -- an instruction that suits the heights is fine by the plan
   fine : (place : ℕ) (spot : Spot) (op : Op) → place + spot.rank ≡ length heights → Suits heights place spot.height op → IsFine (ranked heights) place spot op
   fine place spot (ops.Push v) all a = goes_on place (spot.height + 1) spot all a
   fine place spot ops.Drop all a = (a.0, goes_on place (spot.height - 1) spot all a.1)

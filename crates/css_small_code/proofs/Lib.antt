@@ -2,7 +2,7 @@ mod Runs
 mod Ends
 mod Stands
 mod Steps
-mod Puts
+mod Statements
 mod Heights
 mod Sound
 mod Correct

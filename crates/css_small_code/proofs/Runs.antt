@@ -1,5 +1,5 @@
 -- The machine follows a part of a program, whatever the machine's code and the part are.
-use Rattle.std.proofs.Common.{◌≡◌, ℕ, suc, ◌≤◌, refl, sym, ◌∙◌, subst, arith}
+use Rattle.std.proofs.Common.{◌≡◌, ℕ, suc, ◌≤◌, refl, ◌∙◌, subst, arith}
 use Rattle.css_semantics.specs.Dialogue.{Tape, Outcome, Goes, Stops, then_do}
 use Rattle.css_vm.specs.Machine.{Halt}
 
@@ -53,6 +53,7 @@ pub runs_then : {A B : Type 0} {n : ℕ} {from : Run} {mid : Landing A} {land : 
 runs_then {n = n} {from = from} {mid = mid} {land = land} {o = o} {go = go} r next =
     record { by = then_to n from mid land o go r.by next }
 
+-- to go on with the value alone changes nothing
 then_goes : {A : Type 0} (o : Outcome A) → then_do o Goes ≡ o
 then_goes (Goes a t) = refl
 then_goes (Stops why t) = refl
@@ -62,7 +63,7 @@ pub runs_behind : {A : Type 0} {n : ℕ} {from : Run} {mid land : Landing A} {o 
 runs_behind {n = n} {from = from} {mid = mid} {land = land} {o = o} r next =
     subst (λ o. Runs n from land o) (then_goes o) (runs_then r next)
 
--- what is done with a value's value
+-- two continuations, grouped either way
 pub then_assoc : {A B C : Type 0} (o : Outcome A) (f : A → Tape → Outcome B) (g : B → Tape → Outcome C) → then_do (then_do o f) g ≡ then_do o (λ a t. then_do (f a t) g)
 then_assoc (Goes a t) f g = refl
 then_assoc (Stops why t) f g = refl

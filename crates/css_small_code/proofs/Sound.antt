@@ -3,11 +3,12 @@ use Rattle.std.proofs.Common.{◌≡◌, ℕ, ◌+◌, List, [], ◌∷◌, ◌+
 use Rattle.std.specs.Prelude.{slice_get, Bool, true, false, nat_eq, if◌then◌else◌}
 use Rattle.css_vm.specs.Soundness.{IsSound}
 use Rattle.css_small.specs.Tree.{Statement, Program}
-use Rattle.css_small_code.specs.Code.{put_code, puts_code, return_code, entry_code, body_line, program_code}
+use Rattle.css_small_code.specs.Code.{put_code, puts_code, return_code, body_line, program_code}
 use Rattle.css_small_code.proofs.Stands.{Stands, stands_front, stands_back, stands_whole}
-use Rattle.css_small_code.proofs.Puts.{entry_if}
+use Rattle.css_small_code.proofs.Statements.{entry_if}
 use Rattle.css_small_code.proofs.Heights.{ranked, AllSuit, both_suit, sound}
 
+-- the stack heights at each instruction of a program
 abbrev put_heights : List ℕ
 put_heights = 0 ∷ 1 ∷ 1 ∷ []
 
@@ -30,6 +31,7 @@ module _ (heights : List ℕ) where
   begins [] place h = h.0
   begins (s ∷ puts) place h = h.0
 
+  -- the code of a statement suits its heights
   put_suits : (s : Statement) (place : ℕ) → Stands heights place put_heights → slice_get heights (place + 1 + 1 + 1) ≡ Some 0 → AllSuit heights place (put_code s) put_heights
   put_suits s place h behind = (h.1.0, ((omega arith, h.1.1.0), ((omega arith, behind), tt)))
 
@@ -48,6 +50,7 @@ module _ (heights : List ℕ) where
       let e : place + 2 ≡ place + 1 + 1 = omega arith in
       (h.1.0, ((omega arith, subst (λ p. slice_get heights p ≡ Some 0) e behind), tt))
 
+-- main begins with an empty stack
 main_begins : (b : Bool) (puts : List Statement) → slice_get (entry_heights b ++ (puts_heights puts ++ return_heights)) 0 ≡ Some 0
 main_begins true [] = refl
 main_begins true (s ∷ puts) = refl

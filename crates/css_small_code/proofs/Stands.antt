@@ -7,16 +7,19 @@ abbrev pub Stands : {A : Type 0} → List A → ℕ → List A → Type 0
 Stands all place [] = Unit {0}
 Stands all place (x ∷ xs) = (slice_get all place ≡ Some x) × Stands all (place + 1) xs
 
+-- of two parts in a row the first stands there
 pub stands_front : {A : Type 0} (all : List A) (place : ℕ) (xs ys : List A) → Stands all place (xs ++ ys) → Stands all place xs
 stands_front all place [] ys h = tt
 stands_front all place (x ∷ xs) ys h = (h.0, stands_front all (place + 1) xs ys h.1)
 
+-- and the second stands behind it
 pub stands_back : {A : Type 0} (all : List A) (place : ℕ) (xs ys : List A) → Stands all place (xs ++ ys) → Stands all (place + length xs) ys
 stands_back all place [] ys h = let e : place ≡ place + 0 = omega arith in subst (λ p. Stands all p ys) e h
 stands_back all place (x ∷ xs) ys h =
     let e : place + 1 + length xs ≡ place + length (x ∷ xs) = omega arith in
     subst (λ p. Stands all p ys) e (stands_back all (place + 1) xs ys h.1)
 
+-- the item behind the first part
 seam : {A : Type 0} (before : List A) (x : A) (xs : List A) → slice_get (before ++ x ∷ xs) (length before) ≡ Some x
 seam [] x xs = refl
 seam (b ∷ before) x xs = seam before x xs

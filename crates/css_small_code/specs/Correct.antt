@@ -7,8 +7,8 @@ use Rattle.css_vm.specs.Soundness.{Spot, IsSound}
 use Rattle.css_small.specs.Tree.{Program}
 use Rattle.css_small_code.specs.Meaning.{source}
 
--- The code is sound and has main's frame, which has no bytes, and in every world it has the program's dialogue: it makes the same tape and ends in the same way, exactly
--- when the program does.
+-- The code is sound and has main's frame, which has no bytes, and in every world it has the program's dialogue: it makes the same
+-- tape and ends in the same way, exactly when the program does.
 pub record Codes (f : Routine) (p : Program) : Type 0 where
   pub sound : (plan : List Spot) × IsSound f plan
   pub frame : f.frame ≡ 0

@@ -1,5 +1,5 @@
 -- Programs whose numbers are ints.
-use Rattle.std.specs.Prelude.{ℕ, ◌≤◌, All}
+use Rattle.std.specs.Prelude.{◌≤◌, All}
 use Rattle.css_small.specs.Tree.{Statement, Program}
 
 -- the number is at most the largest int

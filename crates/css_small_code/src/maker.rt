@@ -11,7 +11,8 @@ use css_small::{Program, Statement};
 use css_vm::{Conversion, Function, Instr, Op};
 use std::alloc::Global;
 
-/// The code of a program's main, which has in every world the program's dialogue.
+/// The code of a program's main, which has in every world the program's dialogue. `NoMemory` where there is no memory for its
+/// instructions.
 pub fn make_code(alloc: Global, tree: &Program) -> Result<Function, NoMemory>
     requires { AreInts (program tree.now) }
     ensures { IfOk result (λ f. Codes (routine f) (program tree.now)) }
@@ -24,18 +25,18 @@ pub fn make_code(alloc: Global, tree: &Program) -> Result<Function, NoMemory>
 fn emit_program(code: &mut Vec<Instr>, tree: &Program) -> Result<(), NoMemory>
     ensures { OnOk result (code.new.items ≡ code.old.items ++ (program_code (program tree.now)).body) }
 {
-    emit_entry(code, tree)?;
+    emit_entry(code, tree.line, line_of_body(tree))?;
     emit_puts(code, &tree.puts)?;
     emit_return(code, &tree.result)
 }
 
-// The first instruction of a body has main's line.
-fn emit_entry(code: &mut Vec<Instr>, tree: &Program) -> Result<(), NoMemory>
-    ensures { let p = program tree.now in OnOk result (code.new.items ≡ code.old.items ++ entry_code p.line (body_line p.puts p.result)) }
+// A push and a drop in main's line, where the body begins in another.
+fn emit_entry(code: &mut Vec<Instr>, main: Line, body: Line) -> Result<(), NoMemory>
+    ensures { OnOk result (code.new.items ≡ code.old.items ++ entry_code main body) }
 {
-    if tree.line != line_of_body(tree) {
-        emit(code, Op::Push(0), tree.line)?;
-        emit(code, Op::Drop, tree.line)?;
+    if main != body {
+        emit(code, Op::Push(0), main)?;
+        emit(code, Op::Drop, main)?;
     }
     Ok(())
 }
