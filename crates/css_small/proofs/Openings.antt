@@ -45,8 +45,8 @@ number_begins (b ∷ bs) (inr h) = inr (h.0, rw (second b h.1 bs h.2 h.3) h.4)
 pub at_front : (text : List ℕ) (m k : ℕ) → (slice_index (take m text) k ≡ slice_index text k) ⊎ ((slice_index (take m text) k ≡ 0) × (m ≤ k))
 at_front text m k =
     elim (cases_lt k m) [
-      inl below ↦ inl (get_or-take m text k 0 below)
-    | inr past ↦ inr (get_or_past (take m text) k 0 (simp length-take (omega arith)), past)
+      | inl below ↦ inl (get_or-take m text k 0 below)
+      | inr past ↦ inr (get_or_past (take m text) k 0 (simp length-take (omega arith)), past)
     ]
 
 nondigit_from : (a b : ℕ) (m : ℕ) → (a ≡ b) ⊎ ((a ≡ 0) × (m ≤ 0)) → IsNondigit a → IsNondigit b

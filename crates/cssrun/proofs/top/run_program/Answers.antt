@@ -1,6 +1,5 @@
-use Rattle.std.proofs.Common.{◌≡◌, ◌∙◌, sym, ap, pos, rules, arith}
+use Rattle.std.proofs.Common.{◌≡◌, ◌∙◌, sym, ap, pos, rules, arith, FitsSigned}
 use Rattle.std.specs.Int.{w32}
-use mir.Val.{SFits}
 use Rattle.std.proofs.lemmas.Int.{to_z-of_z}
 use Rattle.css_semantics.specs.Dialogue.{Goes}
 use Rattle.css_vm.specs.Code.{routine}
@@ -23,7 +22,7 @@ returns-in-Result g c =
     let p = program c.args.tree.now in
     let coded = Finishes-coded (routine c.in-Ok.code) p c.in-Ok.ensures in
     let ran = c.in-Result.ensures (pos p.result.number) coded.0 coded.2 in
-    let fits : SFits w32 c.in-Result.result = search rules in
+    let fits : FitsSigned w32 c.in-Result.result = search rules in
     let ended = simp to_z-of_z at c.end.ensures in
     run_ended p c.in-Result.result coded.0 (coded.1 ∙ ap (λ r. Goes r coded.0) (sym ran.0)) _ _ _ ran.1 ended
 
