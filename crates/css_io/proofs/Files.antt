@@ -1,6 +1,6 @@
 -- Files by name.
-use Rattle.std.proofs.Common.{◌≡◌, ℕ, ◌+◌, ◌<◌, ◌≤◌, Bool, true, false, cond, ltb, not, List, [], ◌∷◌, length, map, get_or, IsSome, IsNone, slice_index, Option, Some, None, String, Vec, Global, string_bytes, refl, sym, ap, ◌∙◌, inl, inr, ◌⊎◌, ⊎_elim, arith}
-use Rattle.std.specs.List.{find, position, position_or_len, prefix_len, slice_get}
+use Rattle.std.proofs.Common.{◌≡◌, ℕ, ◌+◌, ◌<◌, ◌≤◌, Bool, cond, not, List, [], ◌∷◌, length, map, get_or, IsSome, IsNone, slice_index, Option, Some, None, String, Vec, Global, string_bytes, refl, ap, ◌∙◌, ⊎_elim, arith}
+use Rattle.std.specs.List.{find, position, position_or_len, slice_get}
 use Rattle.std.specs.Option.{option_map, option_map_or}
 use Rattle.std.specs.Str.{bytes_eq}
 use Rattle.std.proofs.lemmas.Bool.{cases_lt, lt-ltb, le-ltb}

@@ -1,7 +1,7 @@
 -- Told bytes over several calls.
 use Rattle.std.proofs.Common.{◌≡◌, List, [], ◌++◌, ℕ, ◌+◌, Option, Some, None, IfSome, refl, sym, ap, ◌∙◌, subst, take, drop}
 use Rattle.std.proofs.Math.Seq.{take-add}
-use Rattle.std.proofs.lemmas.List.{append-nil, append_assoc, take-append-drop, drop-drop}
+use Rattle.std.proofs.lemmas.List.{append_assoc, take-append-drop, drop-drop}
 use Rattle.css_io.specs.Outside.{Appends, AppendsPrefix, Gives}
 
 -- two calls that append, one after the other

@@ -1,5 +1,5 @@
 -- A sink in memory.
-use Rattle.std.specs.Prelude.{ℕ, ◌+◌, ◌-◌, ◌≡◌, ◌⊎◌, List, [], length, Contains}
+use Rattle.std.specs.Prelude.{ℕ, ◌≡◌, ◌⊎◌, List, length, Contains}
 
 -- the bytes written, the room for them, the number of the next call, the calls that fail, and the count of faults
 pub record SinkInMemory : Type 0 where

@@ -107,7 +107,8 @@ fn append_next<R: Read>(
     ensures appends { IfOk result (λ n. bytes.new.items ≡ bytes.old.items ++ take n part.new) }
     ensures count { IfOk result (λ n. vec_len bytes.new ≡ vec_len bytes.old + n) }
     ensures within { IfOk result (λ n. n ≤ length part.old) }
-    ensures passes { IfOk result (λ n. known.Consumes (R.remaining reader.old) (R.remaining reader.new) (take n part.new)) }
+    ensures passes { IfOk result (λ n.
+        known.Consumes (R.remaining reader.old) (R.remaining reader.new) (take n part.new)) }
     ensures end { IfOk result (λ n. n ≡ 0 → 0 < length part.old → known.IsAtEnd (R.remaining reader.new)) }
 {
     let Some(count) = read_once(reader, part) else {

@@ -58,9 +58,11 @@ impl Shelf for MemShelf {
 
     fn read_file(&mut self, alloc: Global, name: &str, limit: usize) -> Result<Vec<u8>, ShelfFault>
         // What each shelf says.
-        ensures ok { IfOk result (λ bytes. IfSome (file_of self.old name.now) (λ all. bytes.items ≡ take limit all)) }
+        ensures ok { IfOk result (λ bytes.
+            IfSome (file_of self.old name.now) (λ all. bytes.items ≡ take limit all)) }
         ensures limit { IfOk result (λ bytes. length bytes.items ≤ limit) }
-        ensures failed { IsErrOf result ShelfFault.Failed → Rose (count_of self.old name.now) (count_of self.new name.now) }
+        ensures failed { IsErrOf result ShelfFault.Failed →
+            Rose (count_of self.old name.now) (count_of self.new name.now) }
         ensures same_files { (n : List ℕ) → file_of self.new n ≡ file_of self.old n }
         ensures never_falls { (n : List ℕ) → count_of self.old n ≤ count_of self.new n }
 
@@ -68,9 +70,12 @@ impl Shelf for MemShelf {
         ensures fails { IsErrOf result ShelfFault.Failed → NextFails self.old name.now }
         ensures listed { Contains self.old.failing self.old.next → IsErr result }
         ensures missing { IsNone (file_of self.old name.now) → IsErrOf result ShelfFault.Failed }
-        ensures raised { IsErrOf result ShelfFault.Failed → count_of self.new name.now ≡ one_more (count_of self.old name.now) }
-        ensures no_fault { ¬ IsErrOf result ShelfFault.Failed → (n : List ℕ) → count_of self.new n ≡ count_of self.old n }
-        ensures other_counts { (n : List ℕ) → ¬ SharesCount self.old n name.now → count_of self.new n ≡ count_of self.old n }
+        ensures raised { IsErrOf result ShelfFault.Failed →
+            count_of self.new name.now ≡ one_more (count_of self.old name.now) }
+        ensures no_fault { ¬ IsErrOf result ShelfFault.Failed →
+            (n : List ℕ) → count_of self.new n ≡ count_of self.old n }
+        ensures other_counts { (n : List ℕ) → ¬ SharesCount self.old n name.now →
+            count_of self.new n ≡ count_of self.old n }
         ensures numbered { self.new.next ≡ one_more self.old.next }
         ensures same_failing { self.new.failing ≡ self.old.failing }
     {
@@ -97,8 +102,10 @@ fn place_of_name(files: &[(String, Vec<u8>)], name: &str) -> Option<usize>
 /// memory for the count, which then stays.
 fn fault_at(counts: &mut Vec<u64>, place: usize) -> ShelfFault
     requires { place + 1 < 2 ^ 64 }
-    ensures raised { result ≡ ShelfFault.Failed → slice_index counts.new.items place ≡ one_more (slice_index counts.old.items place) }
-    ensures others { (k : ℕ) → k ≢ place → slice_index counts.new.items k ≡ slice_index counts.old.items k }
+    ensures raised { result ≡ ShelfFault.Failed →
+        slice_index counts.new.items place ≡ one_more (slice_index counts.old.items place) }
+    ensures others { (k : ℕ) → k ≢ place →
+        slice_index counts.new.items k ≡ slice_index counts.old.items k }
     ensures never_fall { (k : ℕ) → slice_index counts.old.items k ≤ slice_index counts.new.items k }
     ensures kept { result ≡ ShelfFault.NoMemory → counts.new.items ≡ counts.old.items }
 {

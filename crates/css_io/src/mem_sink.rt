@@ -73,14 +73,16 @@ impl Sink for MemSink {
         requires { 0 < length piece.now }
         // What each sink says.
         ensures count { IfOk result (λ n. (1 ≤ n) × (n ≤ length piece.now)) }
-        ensures appends { IfOk result (λ n. Appends (Some self.old.written) (Some self.new.written) (take n piece.now)) }
+        ensures appends { IfOk result (λ n.
+            Appends (Some self.old.written) (Some self.new.written) (take n piece.now)) }
         ensures failed { OnErr result (Rose self.old.faults self.new.faults) }
         ensures kept { OnErr result (Some self.new.written ≡ Some self.old.written) }
         ensures never_falls { self.old.faults ≤ self.new.faults }
 
         // When this one fails, and how much it takes.
         ensures fails { IsErr result ↔ NextFails self.old }
-        ensures fits { IfOk result (λ n. n ≡ min (length piece.now) (self.old.room - length self.old.written)) }
+        ensures fits { IfOk result (λ n.
+            n ≡ min (length piece.now) (self.old.room - length self.old.written)) }
         ensures raised { OnErr result (self.new.faults ≡ one_more self.old.faults) }
         ensures no_fault { OnOk result (self.new.faults ≡ self.old.faults) }
         ensures numbered { self.new.next ≡ one_more self.old.next }

@@ -62,7 +62,8 @@ impl Source for MemSource {
     fn read(&mut self, part: &mut [u8]) -> Result<usize, Failed>
         // What each source says.
         ensures within { IfOk result (λ n. n ≤ length part.old) }
-        ensures gives { IfOk result (λ n. Gives (Some self.old.left) (Some self.new.left) (take n part.new)) }
+        ensures gives { IfOk result (λ n.
+            Gives (Some self.old.left) (Some self.new.left) (take n part.new)) }
         ensures end { IfOk result (λ n. 0 < length part.old → ((n ≡ 0) ↔ (self.old.left ≡ []))) }
         ensures counts { IfOk result (λ n. self.new.taken ≡ self.old.taken + n) }
         ensures failed { OnErr result (Rose self.old.faults self.new.faults) }

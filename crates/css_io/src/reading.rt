@@ -37,7 +37,8 @@ impl From<AllocError> for ReadFault {
 /// All bytes that are left, at most `limit`. After an `Err` the source has given what it gave: the number taken says
 /// how much, at most one byte more than `limit`.
 pub fn read_all<I: Source>(alloc: Global, input: &mut I, limit: usize) -> Result<Vec<u8>, ReadFault>
-    ensures ok { IfOk result (λ bytes. IfSome (I.left input.old) (λ left. (bytes.items ≡ left) × (I.left input.new ≡ Some []))) }
+    ensures ok { IfOk result (λ bytes.
+        IfSome (I.left input.old) (λ left. (bytes.items ≡ left) × (I.left input.new ≡ Some []))) }
     ensures limit { IfOk result (λ bytes. length bytes.items ≤ limit) }
     ensures counts { IfOk result (λ bytes. I.taken input.new ≡ I.taken input.old + length bytes.items) }
     ensures too_long { IsErrOf result ReadFault.TooLong ↔ (I.taken input.old + limit < I.taken input.new) }
@@ -81,8 +82,10 @@ fn append_next<I: Source>(
     ensures gives { IfOk result (λ n. Gives (I.left input.old) (I.left input.new) (take n part.new)) }
     ensures end { IfOk result (λ n. n ≡ 0 → IfSome (I.left input.old) (λ left. left ≡ [])) }
     ensures counts { IfOk result (λ n. I.taken input.new ≡ I.taken input.old + n) }
-    ensures too_long { IfErr result (λ fault. (fault ≡ ReadFault.TooLong) ↔ (I.taken input.old + limit < I.taken input.new)) }
-    ensures failed { IfErr result (λ fault. fault ≡ ReadFault.Failed → Rose (I.faults input.old) (I.faults input.new)) }
+    ensures too_long { IfErr result (λ fault.
+        (fault ≡ ReadFault.TooLong) ↔ (I.taken input.old + limit < I.taken input.new)) }
+    ensures failed { IfErr result (λ fault.
+        fault ≡ ReadFault.Failed → Rose (I.faults input.old) (I.faults input.new)) }
     ensures never_falls { I.faults input.old ≤ I.faults input.new }
     ensures grows { I.taken input.old ≤ I.taken input.new }
     ensures no_more { I.taken input.new ≤ I.taken input.old + length part.old }

@@ -21,7 +21,8 @@ pub(crate) fn open_once<R: Files>(rt: &R, name: &str) -> Option<R::File> {
 /// One read. `None` where the reader fails.
 pub(crate) fn read_once<R: Read>(reader: &mut R, part: &mut [u8]) -> Option<usize>
     ensures within { IfSome result (λ n. n ≤ length part.new) }
-    ensures passes { IfSome result (λ n. known.Consumes (R.remaining reader.old) (R.remaining reader.new) (take n part.new)) }
+    ensures passes { IfSome result (λ n.
+        known.Consumes (R.remaining reader.old) (R.remaining reader.new) (take n part.new)) }
     ensures end { IfSome result (λ n. n ≡ 0 → 0 < length part.old → known.IsAtEnd (R.remaining reader.new)) }
     ensures passes_none { IfNone result (known.Keeps (R.remaining reader.old) (R.remaining reader.new)) }
 {
@@ -38,7 +39,8 @@ pub(crate) fn read_once<R: Read>(reader: &mut R, part: &mut [u8]) -> Option<usiz
 /// One write. `None` where the writer fails or takes nothing.
 pub(crate) fn write_once<W: Write>(writer: &mut W, piece: &[u8]) -> Option<usize>
     ensures count { IfSome result (λ n. (1 ≤ n) × (n ≤ length piece.now)) }
-    ensures passes { IfSome result (λ n. known.Appends (W.contents writer.old) (W.contents writer.new) (take n piece.now)) }
+    ensures passes { IfSome result (λ n.
+        known.Appends (W.contents writer.old) (W.contents writer.new) (take n piece.now)) }
     ensures passes_none { IfNone result (known.Keeps (W.contents writer.old) (W.contents writer.new)) }
 {
     for _ in 0..u64::MAX {

@@ -49,7 +49,8 @@ impl<W: Write> Sink for StdSink<W> {
         ensures never_falls { self.old.faults ≤ self.new.faults }
 
         // What it does to the writer, whose bytes may be known.
-        ensures passes { IfOk result (λ n. known.Appends (W.contents self.old.inner) (W.contents self.new.inner) (take n piece.now)) }
+        ensures passes { IfOk result (λ n.
+            known.Appends (W.contents self.old.inner) (W.contents self.new.inner) (take n piece.now)) }
         ensures passes_none { OnErr result (known.Keeps (W.contents self.old.inner) (W.contents self.new.inner)) }
         ensures raised { OnErr result (self.new.faults ≡ one_more self.old.faults) }
         ensures no_fault { OnOk result (self.new.faults ≡ self.old.faults) }

@@ -58,9 +58,11 @@ impl<R: Read> Source for StdSource<R> {
         ensures never_falls { self.old.faults ≤ self.new.faults }
 
         // What it does to the reader, whose bytes may be known.
-        ensures passes { IfOk result (λ n. known.Consumes (R.remaining self.old.inner) (R.remaining self.new.inner) (take n part.new)) }
+        ensures passes { IfOk result (λ n.
+            known.Consumes (R.remaining self.old.inner) (R.remaining self.new.inner) (take n part.new)) }
         ensures passes_none { OnErr result (known.Keeps (R.remaining self.old.inner) (R.remaining self.new.inner)) }
-        ensures ends { IfOk result (λ n. n ≡ 0 → 0 < length part.old → known.IsAtEnd (R.remaining self.new.inner)) }
+        ensures ends { IfOk result (λ n.
+            n ≡ 0 → 0 < length part.old → known.IsAtEnd (R.remaining self.new.inner)) }
         ensures full { 2 ^ 64 - 1 < self.old.taken + length part.old → IsErr result }
         ensures raised { OnErr result (self.new.faults ≡ one_more self.old.faults) }
         ensures no_fault { OnOk result (self.new.faults ≡ self.old.faults) }

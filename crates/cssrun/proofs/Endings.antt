@@ -31,9 +31,9 @@ pub ends_answer : (IsOne : Answer → Type 0) (out report : Change) (status : �
 ends_answer IsOne out report status a one same got_out (Written is got) = Whole a one is got_out got
 ends_answer IsOne out report status a one same got_out (CutLine is failed got) =
     Cut is (inr failed) (λ b other.
-        let is_a : a ≡ b = sym (same b other) in
-        let P : Answer → Type 0 = λ x. GotPrefix out x.out × GotPrefixAndPrefix report x.report no_memory in
-        subst P is_a (AppendsPrefix-whole out.before out.after a.out got_out, nothing_of_line report a.report no_memory got))
+    let is_a : a ≡ b = sym (same b other) in
+    let P : Answer → Type 0 = λ x. GotPrefix out x.out × GotPrefixAndPrefix report x.report no_memory in
+    subst P is_a (AppendsPrefix-whole out.before out.after a.out got_out, nothing_of_line report a.report no_memory got))
 
 -- the output failed, and nothing is reported
 pub ends_out_failed : (IsOne : Answer → Type 0) (out report : Change) → HasFailed out → ((a : Answer) → IsOne a → GotPrefix out a.out) → ((bytes : List ℕ) → GotPrefix report bytes)

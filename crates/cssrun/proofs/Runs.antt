@@ -25,10 +25,10 @@ answer_from r tape = record { out = output tape; report = ending_line (endings.R
 pub answer_from-is : (p : Program) (r : ℤ) (tape : Tape) → source (flat memory) p ≡ Goes r tape → IsRunAnswer p (answer_from r tape)
 answer_from-is p r tape goes =
     record {
-        ending = endings.Result r;
-        runs = record { result = r; tape = tape; goes = goes; out_is = refl; ending_is = refl };
-        report_is = refl;
-        status_is = refl
+      ending = endings.Result r;
+      runs = record { result = r; tape = tape; goes = goes; out_is = refl; ending_is = refl };
+      report_is = refl;
+      status_is = refl;
     }
 
 answer_of_parts : (a b : Answer) → a.out ≡ b.out → a.report ≡ b.report → a.status ≡ b.status → a ≡ b
@@ -101,4 +101,4 @@ run_ended p r tape goes out report status got (inl line) =
     ends_answer (IsRunAnswer p) out report status (answer_from r tape) (answer_from-is p r tape goes) (run_answer_is p r tape goes) got line
 run_ended p r tape goes out report status got (inr starved) =
     ends_no_memory (IsRunAnswer p) out report status
-        (run_prefix p r tape goes out (AppendsPrefix-whole out.before out.after (output tape) got)) starved
+    (run_prefix p r tape goes out (AppendsPrefix-whole out.before out.after (output tape) got)) starved

@@ -53,7 +53,7 @@ answered_from words told before after out report status name text asks None same
 answered_from words told before after out report status name text asks (Some all) same is ends =
     let P : Option (List ℕ) → Type 0 = λ f. IfSome f (λ bytes. all ≡ bytes) in
     Answered all (is_text words told name all asks (subst P (sym same) refl))
-        (ends_asked words name all out report status asks (ends_taken all out report status (subst (λ t. Ends (IsTextAnswer t) out report status) is ends)))
+    (ends_asked words name all out report status asks (ends_taken all out report status (subst (λ t. Ends (IsTextAnswer t) out report status) is ends)))
 
 -- a call that ends as the bytes that were read ask ends as the words ask
 pub answered : (words : List (List ℕ)) (told : List ℕ → Option (List ℕ)) (before after : List ℕ → ℕ) (out report : Change) (status : ℕ) (name text : List ℕ)
@@ -79,7 +79,7 @@ pub text_refused : (text : List ℕ) (name : StaticName) (line : ℕ) (out repor
 text_refused text name line out report status is_name is_line not got nothing (inl finishes) =
     let named = subst (λ n. Finishes report (static_line n line) 3 status) is_name finishes in
     ends_answer (IsTextAnswer text) out report status not_built (Refused not refl) (not_built_is text not) got
-        (subst (λ l. Finishes report (static_line names.NotBuilt l) 3 status) is_line named)
+    (subst (λ l. Finishes report (static_line names.NotBuilt l) 3 status) is_line named)
 text_refused text name line out report status is_name is_line not got nothing (inr starved) =
     ends_no_memory (IsTextAnswer text) out report status (λ a one. nothing a.out) starved
 
@@ -98,4 +98,4 @@ pub ends_refused : (words : List (List ℕ)) (told : List ℕ → Option (List �
 unfolding not_asked
 ends_refused words told before after out report status refused got finishes =
     Answered [] (λ file asks. absurd (refused file asks))
-        (ends_answer (IsAnswer words []) out report status not_asked (WordsRefused refused refl) (not_asked_is words [] refused) got finishes)
+    (ends_answer (IsAnswer words []) out report status not_asked (WordsRefused refused refl) (not_asked_is words [] refused) got finishes)

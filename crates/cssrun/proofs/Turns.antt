@@ -26,7 +26,7 @@ ran_further : (memory : ℕ) (f : Routine) (result : ℤ) (tape : Tape) (s : Sta
 ran_further memory f result tape s written steps run =
     let e : run.steps + suc steps ≡ steps + suc run.steps = omega arith in
     subst (λ n. exec (flat memory) f n s run.so_far ≡ Goes (Finished result) tape) e
-        (exec-more (flat memory) f run.steps (suc steps) s run.so_far (Finished result) tape run.goes)
+    (exec-more (flat memory) f run.steps (suc steps) s run.so_far (Finished result) tape run.goes)
 
 -- at the function's return the run has its result, and writes no more
 pub running_ended : (memory : ℕ) (f : Routine) (result : ℤ) (tape : Tape) (old new : State) (written : List ℕ) (value line : ℕ)
@@ -34,7 +34,7 @@ pub running_ended : (memory : ℕ) (f : Routine) (result : ℤ) (tape : Tape) (o
     → (int_of value ≡ result) × (output tape ≡ written)
 running_ended memory f result tape old new written value line reaches run =
     let left : leaving (flat memory) f.frame (base_of old) value line run.so_far ≡ Goes (Finished result) tape =
-        sym (reaches.1 (flat memory) run.steps run.so_far) ∙ ran_further memory f result tape old written reaches.0 run in
+    sym (reaches.1 (flat memory) run.steps run.so_far) ∙ ran_further memory f result tape old written reaches.0 run in
     let same : (output run.so_far ++ []) ++ [] ≡ output tape = ap (λ o. output (tape_of o)) left in
     (cc, sym same ∙ append-nil (output run.so_far ++ []) ∙ append-nil (output run.so_far) ∙ run.written_is)
 
@@ -44,10 +44,10 @@ pub running_out : (memory : ℕ) (f : Routine) (result : ℤ) (tape : Tape) (old
     → Running memory f result tape (answered (length bytes) new) (written ++ bytes)
 running_out memory f result tape old new written bytes reaches run =
     record {
-        steps = run.steps;
-        so_far = record { action = _; line = reaches.1 } ∷ run.so_far;
-        goes = sym (reaches.2 (flat memory) run.steps run.so_far) ∙ ran_further memory f result tape old written reaches.0 run;
-        written_is = ap (λ b. b ++ bytes) run.written_is
+      steps = run.steps;
+      so_far = record { action = _; line = reaches.1 } ∷ run.so_far;
+      goes = sym (reaches.2 (flat memory) run.steps run.so_far) ∙ ran_further memory f result tape old written reaches.0 run;
+      written_is = ap (λ b. b ++ bytes) run.written_is;
     }
 
 -- a whole run is on its way once main is entered
@@ -71,15 +71,15 @@ pub turn_out : (f : Routine) (old new : State) (bytes pending pending' : List �
     → Passes c (pending ++ bytes) pending' → c.faults_before ≤ c.faults_after → GoesOn f old (answered (length bytes) new) pending pending' c
 turn_out f old new bytes pending pending' c reaches owed (front, parts, got) never_fell =
     record {
-        front = front;
-        got = got;
-        running = λ memory result tape written run.
-            let wrote : (written ++ pending) ++ bytes ≡ (written ++ front) ++ pending' =
-                append_assoc written pending bytes ∙ ap (λ b. written ++ b) parts ∙ sym (append_assoc written front pending') in
-            subst (λ b. Running memory f result tape (answered (length bytes) new) b) wrote
-                (running_out memory f result tape old new (written ++ pending) bytes reaches run);
-        falls = falls_answered f old new (length bytes) owed.2;
-        never_fell = never_fell
+      front = front;
+      got = got;
+      running = λ memory result tape written run.
+          let wrote : (written ++ pending) ++ bytes ≡ (written ++ front) ++ pending' =
+          append_assoc written pending bytes ∙ ap (λ b. written ++ b) parts ∙ sym (append_assoc written front pending') in
+          subst (λ b. Running memory f result tape (answered (length bytes) new) b) wrote
+          (running_out memory f result tape old new (written ++ pending) bytes reaches run);
+      falls = falls_answered f old new (length bytes) owed.2;
+      never_fell = never_fell;
     }
 
 -- sound code begins at a place of its plan

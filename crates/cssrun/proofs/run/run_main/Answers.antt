@@ -12,9 +12,9 @@ loop-init g c =
     let base = c.args.memory - code.frame in
     let begun = begins_at (routine code) c.requires.sound.0 base c.requires.sound.1 in
     rw (c.new-machine.ensures, c.in-Ok.ensures) (record {
-        by_plan = (c.requires.sound.0, c.requires.sound.1, (begun.0, begun.1, omega (arith, begun.2)));
-        wrote = ([], Appends-nothing _, λ r tape finishes. running_begun c.args.memory (routine code) r tape finishes);
-        never_fell = omega arith
+      by_plan = (c.requires.sound.0, c.requires.sound.1, (begun.0, begun.1, omega (arith, begun.2)));
+      wrote = ([], Appends-nothing _, λ r tape finishes. running_begun c.args.memory (routine code) r tape finishes);
+      never_fell = omega arith;
     })
 
 pub returns-in-Some : goal.returns-in-Some
@@ -31,9 +31,11 @@ loop-preserved g c =
     let next = goes_on.falls plan.0 plan.2.0 plan.1 plan.2.1 in
     let told = g.O.Sink.written in
     record {
-        by_plan = (plan.0, plan.1, (next.0, next.2, omega (arith, next.1, plan.2.2)));
-        wrote = (before.0 ++ goes_on.front,
-            Appends-more (told c.args.out.now) (told c.loop.out) (told c.turn.new.out) before.0 goes_on.front before.1 goes_on.got,
-            λ r tape finishes. goes_on.running c.args.memory r tape before.0 (before.2 r tape finishes));
-        never_fell = omega (arith, c.loop.invariant.never_fell, goes_on.never_fell)
+      by_plan = (plan.0, plan.1, (next.0, next.2, omega (arith, next.1, plan.2.2)));
+      wrote = (
+        before.0 ++ goes_on.front,
+        Appends-more (told c.args.out.now) (told c.loop.out) (told c.turn.new.out) before.0 goes_on.front before.1 goes_on.got,
+        λ r tape finishes. goes_on.running c.args.memory r tape before.0 (before.2 r tape finishes),
+      );
+      never_fell = omega (arith, c.loop.invariant.never_fell, goes_on.never_fell);
     }

@@ -17,7 +17,7 @@ returns-in-Ok-clause-goes_on g c =
     let owed = rw c.in-Ok-Out.field-0-is at c.in-Ok-Out.ensures.owed in
     let passes = rw c.as_slice-bytes.ensures at c.in-Ok.ensures.ok in
     rw (c.answer.ensures, c.as_slice-bytes.ensures)
-        (turn_out _ c.args.machine.now machine c.in-Ok-Out.printed c.args.pending.now c.add.new.self _ reaches owed passes c.in-Ok.ensures.never_falls)
+    (turn_out _ c.args.machine.now machine c.in-Ok-Out.printed c.args.pending.now c.add.new.self _ reaches owed passes c.in-Ok.ensures.never_falls)
 
 pub returns-in-Ok-Ended-clause-ends : goal.returns-in-Ok-Ended-clause-ends
 returns-in-Ok-Ended-clause-ends g c = λ memory result tape written run.

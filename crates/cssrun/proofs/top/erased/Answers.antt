@@ -13,4 +13,4 @@ returns-in-Ok g c = λ words asks.
 pub returns-in-Err-NoMemory : goal.returns-in-Err-NoMemory
 returns-in-Err-NoMemory g c = λ words asks.
     answered_any words _ _ _ _ _ _ c.args.name.now asks
-        (λ text. ends_no_memory (IsTextAnswer text) _ _ _ (λ a one. AppendsPrefix-nothing _ a.out) c.finish-in-Err-NoMemory.ensures)
+    (λ text. ends_no_memory (IsTextAnswer text) _ _ _ (λ a one. AppendsPrefix-nothing _ a.out) c.finish-in-Err-NoMemory.ensures)

@@ -1,4 +1,4 @@
-use Rattle.std.proofs.Common.{rules, inl, inr, refl, ◌≡◌, Some, None, IsSome, IsNone}
+use Rattle.std.proofs.Common.{inl, inr, refl, ◌≡◌, Some, IsSome}
 use Rattle.css_io.specs.MemShelf.{files_of, file_of}
 use Rattle.css_io.proofs.Files.{bytes_of-missing, bytes_of-there, bytes_of-found, counts-never_fall}
 use Rattle.css_io.proofs.mem_shelf.MemShelfShelf.read_file.Goals as goal
