@@ -1,8 +1,8 @@
 -- The longest fronts of a text, by what stands at each place.
-use Rattle.std.proofs.Common.{◌≡◌, ◌⊎◌, ℕ, zero, suc, ◌+◌, ◌-◌, ◌<◌, ◌≤◌, min, Bool, true, ◌&&◌, leb, List, [], ◌∷◌, ◌++◌, length, take, drop, slice_index, get_or, All, Contains, refl, sym, ap, subst, inl, inr, ◌∙◌, arith, get_or-take, zero-lt-suc, append_assoc}
-use Rattle.std.proofs.lemmas.Bool.{cases_lt, leb-true, and_parts}
+use Rattle.std.proofs.Common.{◌≡◌, ◌⊎◌, ℕ, zero, suc, ◌+◌, ◌-◌, ◌<◌, ◌≤◌, min, ◌&&◌, leb, List, [], ◌∷◌, ◌++◌, length, take, drop, slice_index, get_or, All, Contains, refl, sym, ap, subst, inl, inr, ◌∙◌, arith, get_or-take, zero-lt-suc, append_assoc}
+use Rattle.std.proofs.lemmas.Bool.{leb-true, and_parts}
 use Rattle.std.proofs.lemmas.List.{length-take, length-take-le, take_min, length-append, take-append-drop, take_at}
-use Rattle.std.proofs.lemmas.List.Elements.{All-from_get_or, All-get_or}
+use Rattle.std.proofs.lemmas.List.Elements.{All-from_get_or}
 use Rattle.css_small.specs.Spelling.{IsBlank, IsDigit, IsNondigit, IsWord, IsNumber, IsNumberTail, IsLexeme, IsLongest, punctuators}
 use Rattle.css_small.specs.Lexing.{IsLongestFront, GoesOn, BeginsNumber, BeginsAs}
 use Rattle.css_small.specs.declared.lexer.scan.Class.TheVariants as classes
@@ -17,7 +17,7 @@ punctuator_size bytes held =
 
 -- No front of a text is of a class, where none up to its end is.
 pub no_front : (P : List ℕ → Type 0) (text : List ℕ) → (P [] → ⊥) → ((more : ℕ) → 0 < more → more ≤ length text → P (take more text) → ⊥)
-  → (count : ℕ) → P (take count text) → ⊥
+    → (count : ℕ) → P (take count text) → ⊥
 no_front P text nil none count h = by (min count (length text)) (omega arith) (subst P (sym (take_min count text)) h)
   where
     by : (n : ℕ) → n ≤ length text → P (take n text) → ⊥
@@ -33,7 +33,7 @@ text_at P text n k l h = subst P (sym (get_or-take n text k 0 l)) h
 
 -- Blanks.
 pub blanks_longest : (text : List ℕ) (n : ℕ) → n ≤ length text → ((k : ℕ) → k < n → IsBlank (slice_index text k))
-  → (n < length text → ¬ IsBlank (slice_index text n)) → IsLongestFront (All IsBlank) text n
+    → (n < length text → ¬ IsBlank (slice_index text n)) → IsLongestFront (All IsBlank) text n
 blanks_longest text n l each stop = record {
   within = l;
   front = All-from_get_or IsBlank (take n text) 0 (λ k h. let k_in : k < n = omega (arith, length-take n text) in text_at IsBlank text n k k_in (each k k_in));
@@ -55,8 +55,8 @@ word_at [] h k l = absurd h
 word_at (b ∷ bs) h k l = h.1 k 0 (omega arith)
 
 pub word_longest : (text : List ℕ) (n : ℕ) → IsNondigit (slice_index text 0) → 0 < n → n ≤ length text
-  → ((k : ℕ) → 0 < k → k < n → IsNondigit (slice_index text k) ⊎ IsDigit (slice_index text k))
-  → (n < length text → ¬ (IsNondigit (slice_index text n) ⊎ IsDigit (slice_index text n))) → IsLongestFront IsWord text n
+    → ((k : ℕ) → 0 < k → k < n → IsNondigit (slice_index text k) ⊎ IsDigit (slice_index text k))
+    → (n < length text → ¬ (IsNondigit (slice_index text n) ⊎ IsDigit (slice_index text n))) → IsLongestFront IsWord text n
 unfolding IsWordByte
 word_longest text zero first low l each stop = absurd (omega arith)
 word_longest text (suc n) first low l each stop = record {
@@ -95,27 +95,27 @@ begins_front text n low two (inl h) = inl (text_at IsDigit text n 0 low h)
 begins_front text n low two (inr h) = inr (text_at (λ b. b ≡ 46) text n 0 low h.0, text_at IsDigit text n 1 (two h.0) h.1)
 
 number_front : (text : List ℕ) (last : ℕ) → BeginsNumber text → (slice_index text 0 ≡ 46 → 2 ≤ suc last) → suc last ≤ length text
-  → ((k : ℕ) → suc k < suc last → GoesOn (slice_index text k) (slice_index text (suc k))) → IsNumber (take (suc last) text)
+    → ((k : ℕ) → suc k < suc last → GoesOn (slice_index text k) (slice_index text (suc k))) → IsNumber (take (suc last) text)
 number_front text last begins two l each =
     number_from (take (suc last) text) (omega (arith, length-take (suc last) text)) (begins_front text (suc last) (zero-lt-suc last) two begins)
     (λ k h.
-      let k_in : suc k < suc last = omega (arith, length-take (suc last) text) in
-      let left : k < suc last = omega arith in
-      text_at (λ b. GoesOn (get_or (take (suc last) text) k 0) b) text (suc last) (suc k) k_in (text_at (λ b. GoesOn b (get_or text (suc k) 0)) text (suc last) k left (each k k_in)))
+    let k_in : suc k < suc last = omega (arith, length-take (suc last) text) in
+    let left : k < suc last = omega arith in
+    text_at (λ b. GoesOn (get_or (take (suc last) text) k 0) b) text (suc last) (suc k) k_in (text_at (λ b. GoesOn b (get_or text (suc k) 0)) text (suc last) k left (each k k_in)))
 
 pub number_longest : (text : List ℕ) (n : ℕ) → BeginsNumber text → 0 < n → (slice_index text 0 ≡ 46 → 2 ≤ n) → n ≤ length text
-  → ((k : ℕ) → suc k < n → GoesOn (slice_index text k) (slice_index text (suc k)))
-  → (n < length text → ¬ GoesOn (slice_index text (n - 1)) (slice_index text n)) → IsLongestFront IsNumber text n
+    → ((k : ℕ) → suc k < n → GoesOn (slice_index text k) (slice_index text (suc k)))
+    → (n < length text → ¬ GoesOn (slice_index text (n - 1)) (slice_index text n)) → IsLongestFront IsNumber text n
 number_longest text zero begins low two l each stop = absurd (omega arith)
 number_longest text (suc last) begins low two l each stop = record {
   within = l;
   front = number_front text last begins two l each;
   longest = λ more h m number.
-    let last_in : last < more = omega arith in
-    let back : last ≡ suc last - 1 = omega arith in
-    let at_last = number_at (take more text) number last (omega (arith, length-take more text)) in
-    let goes_on = front_at (λ b. GoesOn (get_or text last 0) b) text more (suc last) h (front_at (λ b. GoesOn b (get_or (take more text) (suc last) 0)) text more last last_in at_last) in
-    stop (omega arith) (subst (λ k. GoesOn (get_or text k 0) (get_or text (suc last) 0)) back goes_on);
+      let last_in : last < more = omega arith in
+      let back : last ≡ suc last - 1 = omega arith in
+      let at_last = number_at (take more text) number last (omega (arith, length-take more text)) in
+      let goes_on = front_at (λ b. GoesOn (get_or text last 0) b) text more (suc last) h (front_at (λ b. GoesOn b (get_or (take more text) (suc last) 0)) text more last last_in at_last) in
+      stop (omega arith) (subst (λ k. GoesOn (get_or text k 0) (get_or text (suc last) 0)) back goes_on);
 }
 
 -- Lexemes: the first bytes tell the class of all of them.
@@ -156,7 +156,7 @@ punctuator_lexeme text n begins l = record {
 }
 
 pub no_lexeme : (text : List ℕ) → BeginsAs classes.Punctuator text → ((count : ℕ) → Contains punctuators (take count text) → ⊥)
-  → (count : ℕ) → IsLexeme (take count text) → ⊥
+    → (count : ℕ) → IsLexeme (take count text) → ⊥
 no_lexeme text begins none count lexeme = none count (only_punctuator text count begins lexeme)
 
 -- The longest front as bytes and what stands behind them.

@@ -1,10 +1,10 @@
 -- Lexemes are told apart by their first bytes.
-use Rattle.std.proofs.Common.{◌≡◌, ◌⊎◌, ℕ, ◌+◌, ◌<◌, ◌≤◌, min, Bool, true, false, not, ◌&&◌, ◌||◌, leb, eqb, List, [], ◌∷◌, ◌++◌, length, take, slice_index, get_or, All, Contains, true≢false, refl, sym, ap, subst, inl, inr, arith, get_or-take, zero-lt-suc}
+use Rattle.std.proofs.Common.{◌≡◌, ◌⊎◌, ℕ, ◌<◌, ◌≤◌, Bool, true, false, not, ◌&&◌, ◌||◌, leb, eqb, List, [], ◌∷◌, ◌++◌, length, take, slice_index, get_or, Contains, true≢false, refl, sym, ap, subst, inl, inr, arith, get_or-take, zero-lt-suc}
 use Rattle.std.proofs.lemmas.Bool.{cases_lt}
 use Rattle.std.proofs.lemmas.Bool.Decides.{nat_tests}
 use Rattle.std.proofs.lemmas.List.{get_or_past, length-take}
 use Rattle.css_small.specs.declared.lexer.scan.Class.TheVariants as classes
-use Rattle.css_small.specs.Spelling.{IsBlank, IsDigit, IsNondigit, IsWord, IsNumber, IsNumberTail, IsLexeme, punctuators}
+use Rattle.css_small.specs.Spelling.{IsBlank, IsDigit, IsNondigit, IsWord, IsNumber, IsLexeme, punctuators}
 use Rattle.css_small.specs.Lexing.{BeginsNumber, BeginsAs}
 use Rattle.css_small.proofs.Tables.{passes}
 
@@ -45,8 +45,8 @@ number_begins (b ∷ bs) (inr h) = inr (h.0, rw (second b h.1 bs h.2 h.3) h.4)
 pub at_front : (text : List ℕ) (m k : ℕ) → (slice_index (take m text) k ≡ slice_index text k) ⊎ ((slice_index (take m text) k ≡ 0) × (m ≤ k))
 at_front text m k =
     elim (cases_lt k m) [
-      inl below ↦ inl (get_or-take m text k 0 below)
-    | inr past ↦ inr (get_or_past (take m text) k 0 (simp length-take (omega arith)), past)
+      | inl below ↦ inl (get_or-take m text k 0 below)
+      | inr past ↦ inr (get_or_past (take m text) k 0 (simp length-take (omega arith)), past)
     ]
 
 nondigit_from : (a b : ℕ) (m : ℕ) → (a ≡ b) ⊎ ((a ≡ 0) × (m ≤ 0)) → IsNondigit a → IsNondigit b

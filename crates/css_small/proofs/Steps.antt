@@ -1,5 +1,5 @@
 -- One step of the lexer.
-use Rattle.std.proofs.Common.{◌≡◌, ℕ, ◌+◌, ◌<◌, ◌≤◌, List, [], ◌∷◌, ◌++◌, length, take, drop, get_or, All, refl, sym, ap, ap₂, ◌∙◌, subst, arith, take-append-drop, append_assoc, length-append, length-drop, take_at, ◌==◌}
+use Rattle.std.proofs.Common.{◌≡◌, ℕ, ◌+◌, ◌<◌, ◌≤◌, List, [], ◌∷◌, ◌++◌, length, take, drop, All, refl, sym, ap, ap₂, ◌∙◌, subst, arith, take-append-drop, append_assoc, length-append, length-drop, take_at, ◌==◌}
 use Rattle.std.proofs.lemmas.List.{drop_more, drop-drop, length-take-le}
 use Rattle.std.proofs.lemmas.List.Elements.{All-more}
 use Rattle.std.proofs.lemmas.List.Sums.{count_by-le-length}
@@ -18,8 +18,8 @@ solid_behind text n l more =
 
 -- No tokens are spelled where nothing behind the blanks is a token.
 pub refused : (line place : ℕ) (text : List ℕ) (n : ℕ) (body : List ℕ) → body ≡ drop n text → IsLongestFront (All IsBlank) text n → 0 < length body
-  → ((bytes others : List ℕ) (kind : Kind) → body ≡ bytes ++ others → IsLongest bytes others → HasKind bytes kind → ⊥)
-  → (tokens : List Lexeme) → SpellsFrom line place text tokens → ⊥
+    → ((bytes others : List ℕ) (kind : Kind) → body ≡ bytes ++ others → IsLongest bytes others → HasKind bytes kind → ⊥)
+    → (tokens : List Lexeme) → SpellsFrom line place text tokens → ⊥
 refused line place text n body is l more none tokens spells = by tokens spells
   where
     solid : IsSolid (drop n text)
@@ -33,22 +33,22 @@ refused line place text n body is l more none tokens spells = by tokens spells
 
 -- A text of which no front is a lexeme.
 pub no_lexeme_next : (body : List ℕ) → ((count : ℕ) → IsLexeme (take count body) → ⊥)
-  → (bytes others : List ℕ) (kind : Kind) → body ≡ bytes ++ others → IsLongest bytes others → HasKind bytes kind → ⊥
+    → (bytes others : List ℕ) (kind : Kind) → body ≡ bytes ++ others → IsLongest bytes others → HasKind bytes kind → ⊥
 no_lexeme_next body none bytes others kind is l has =
     none (length bytes) (subst IsLexeme (sym (ap (take (length bytes)) is ∙ take_at bytes others (length bytes) refl)) (kind_lexeme bytes kind has))
 
 -- A text of which the longest lexeme in front has no kind.
 pub no_kind_next : (body : List ℕ) (m : ℕ) → IsLongestFront IsLexeme body m → ((kind : Kind) → HasKind (take m body) kind → ⊥)
-  → (bytes others : List ℕ) (kind : Kind) → body ≡ bytes ++ others → IsLongest bytes others → HasKind bytes kind → ⊥
+    → (bytes others : List ℕ) (kind : Kind) → body ≡ bytes ++ others → IsLongest bytes others → HasKind bytes kind → ⊥
 no_kind_next body m l none bytes others kind is longest has =
     let same = one_longest (take m body) (drop m body) bytes others l.front (kind_lexeme bytes kind has) (longest_is body m l) longest (take-append-drop m body ∙ is) in
     none kind (subst (λ b. HasKind b kind) (sym same.0) has)
 
 -- The token behind a text's blanks.
 pub next_is : (line place : ℕ) (text : List ℕ) (n m : ℕ) (blanks body : List ℕ) (kind : Kind) (new_line : ℕ)
-  → blanks ≡ take n (drop place text) → body ≡ drop n (drop place text) → IsLongestFront (All IsBlank) (drop place text) n
-  → IsLongestFront IsLexeme body m → HasKind (take m body) kind → new_line ≡ line + newlines blanks
-  → IsNext line place (drop place text) (At kind new_line (place + length blanks) (place + length blanks + m)) (drop (place + length blanks + m) text)
+    → blanks ≡ take n (drop place text) → body ≡ drop n (drop place text) → IsLongestFront (All IsBlank) (drop place text) n
+    → IsLongestFront IsLexeme body m → HasKind (take m body) kind → new_line ≡ line + newlines blanks
+    → IsNext line place (drop place text) (At kind new_line (place + length blanks) (place + length blanks + m)) (drop (place + length blanks + m) text)
 next_is line place text n m blanks body kind new_line blanks_are body_is front lexeme has line_is = record {
   blanks = blanks;
   bytes = take m body;
@@ -84,7 +84,7 @@ pub record IsSoFar (text : List ℕ) (tokens : List Lexeme) (line place : ℕ) :
 
 -- How far a token ends from where the step began.
 pub next_size : (line place : ℕ) (text rest : List ℕ) (token : Lexeme) → IsNext line place text token rest
-  → (place < end_of token) × (end_of token ≤ place + length text) × (line_of token + place ≤ line + end_of token)
+    → (place < end_of token) × (end_of token ≤ place + length text) × (line_of token + place ≤ line + end_of token)
 next_size line place text rest token n = subst (λ t. (place < end_of t) × (end_of t ≤ place + length text) × (line_of t + place ≤ line + end_of t)) (sym n.is) sizes
   where
     some_byte : 0 < length n.bytes
@@ -100,7 +100,7 @@ next_size line place text rest token n = subst (λ t. (place < end_of t) × (end
     sizes = (omega (arith, some_byte), omega (arith, whole), omega (arith, few_lines))
 
 pub step : (text : List ℕ) (tokens : List Lexeme) (line place : ℕ) → IsSoFar text tokens line place
-  → (token : Lexeme) → IsNext line place (drop place text) token (drop (end_of token) text) → IsSoFar text (tokens ++ token ∷ []) (line_of token) (end_of token)
+    → (token : Lexeme) → IsNext line place (drop place text) token (drop (end_of token) text) → IsSoFar text (tokens ++ token ∷ []) (line_of token) (end_of token)
 step text tokens line place s token next = record {
   within = omega (arith, s.within, size.1, length-drop place text);
   in_line = omega (arith, s.in_line, size.0, size.2);

@@ -1,5 +1,5 @@
 -- The table of punctuators, by tests that compute over it.
-use Rattle.std.proofs.Common.{◌≡◌, ◌↔◌, ℕ, ◌+◌, ◌<◌, ◌≤◌, Bool, true, not, ◌&&◌, ◌||◌, List, [], ◌∷◌, map, length, get_or, eqb, nat_eq, Contains, IsTrue, bytes_eq, Decides, refl, ap, ap₂, sym, inl, inr, ◌∙◌, eq-eqb, arith, false}
+use Rattle.std.proofs.Common.{◌≡◌, ◌↔◌, ℕ, Bool, true, not, ◌&&◌, ◌||◌, List, [], ◌∷◌, map, length, get_or, eqb, nat_eq, Contains, IsTrue, bytes_eq, Decides, refl, ap, ap₂, sym, inl, inr, ◌∙◌, eq-eqb, arith, false}
 use Rattle.std.specs.List.{list_any, list_all}
 use Rattle.std.proofs.lemmas.Bool.{or_cases, both_ways, not-true}
 use Rattle.std.proofs.lemmas.Bool.Decides.{Decides-by_or}
@@ -24,7 +24,7 @@ abbrev pub AreOfLength : ℕ → List (List ℕ) → List (List ℕ) → Type 0
 AreOfLength n part table = (list_all (λ p. not (eqb (length p) n) || is_among part p) table ≡ true) × (list_all (λ p. is_among table p) part ≡ true)
 
 pub same_at_length : (n : ℕ) (part table : List (List ℕ)) → AreOfLength n part table
-  → (bytes : List ℕ) (answer : Bool) → length bytes ≡ n → answer ≡ is_among part bytes → IsTrue answer ↔ Contains table bytes
+    → (bytes : List ℕ) (answer : Bool) → length bytes ≡ n → answer ≡ is_among part bytes → IsTrue answer ↔ Contains table bytes
 same_at_length n part table are bytes answer long is = (there, back)
   where
     there : IsTrue answer → Contains table bytes
@@ -33,8 +33,8 @@ same_at_length n part table are bytes answer long is = (there, back)
     back : Contains table bytes → IsTrue answer
     back h =
         elim (or_cases (not (eqb (length bytes) n)) (is_among part bytes) (passes table (λ p. not (eqb (length p) n) || is_among part p) are.0 bytes h)) [
-          inl other ↦ absurd (both_ways (eqb (length bytes) n) (not-true (eqb (length bytes) n) other) (eq-eqb (length bytes) n long))
-        | inr among ↦ is ∙ among
+          | inl other ↦ absurd (both_ways (eqb (length bytes) n) (not-true (eqb (length bytes) n) other) (eq-eqb (length bytes) n long))
+          | inr among ↦ is ∙ among
         ]
 
 -- A table of bytes, as one of byte strings.

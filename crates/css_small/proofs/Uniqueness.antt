@@ -1,15 +1,15 @@
 -- A text has at most one next token, and spells at most one list of tokens.
-use Rattle.std.proofs.Common.{◌≡◌, ◌⊎◌, ℕ, ◌+◌, List, [], ◌∷◌, ◌++◌, length, All, Contains, refl, sym, ap, ◌∙◌, subst, inl, inr, append-nil}
+use Rattle.std.proofs.Common.{◌≡◌, ◌⊎◌, ℕ, List, [], ◌∷◌, ◌++◌, All, Contains, refl, sym, ap, ◌∙◌, subst, inl, inr, append-nil}
 use Rattle.std.proofs.lemmas.List.Elements.{All-head, All-tail}
 use Rattle.css_base.specs.declared.int_type.IntType.TheVariants as types
-use Rattle.css_base.specs.Tokens.{Kind, Word, Number, Punctuator, Lexeme, At}
-use Rattle.css_small.specs.Spelling.{IsBlank, IsWord, IsNumber, IsDecimal, IsLexeme, IsLongest, HasKind, IsNext, SpellsFrom, SpellsTokens, punctuators, newlines, line_of, end_of}
+use Rattle.css_base.specs.Tokens.{Kind, Word, Number, Punctuator, Lexeme}
+use Rattle.css_small.specs.Spelling.{IsBlank, IsWord, IsNumber, IsDecimal, IsLexeme, IsLongest, HasKind, IsNext, SpellsFrom, punctuators, line_of, end_of}
 use Rattle.css_small.proofs.Cuts.{two_cuts}
 use Rattle.css_small.proofs.Openings.{IsSolid, lexeme_solid, solid_more, word_no_number, word_no_punctuator, number_no_punctuator}
 
 -- The blanks in front end where something else begins.
 pub one_blanks : (some others xs ys : List ℕ) → All IsBlank some → All IsBlank others → IsSolid xs → IsSolid ys
-  → some ++ xs ≡ others ++ ys → (some ≡ others) × (xs ≡ ys)
+    → some ++ xs ≡ others ++ ys → (some ≡ others) × (xs ≡ ys)
 one_blanks [] [] xs ys p q s t e = (refl, e)
 one_blanks [] (b ∷ others) xs ys p q s t e = absurd (subst IsSolid e s (All-head IsBlank b others q))
 one_blanks (a ∷ some) [] xs ys p q s t e = absurd (subst IsSolid (sym e) t (All-head IsBlank a some p))
@@ -22,7 +22,7 @@ one_blanks (a ∷ some) (b ∷ others) xs ys p q s t e =
 
 -- The longest lexeme in front is one.
 pub one_longest : (some xs others ys : List ℕ) → IsLexeme some → IsLexeme others → IsLongest some xs → IsLongest others ys
-  → some ++ xs ≡ others ++ ys → (some ≡ others) × (xs ≡ ys)
+    → some ++ xs ≡ others ++ ys → (some ≡ others) × (xs ≡ ys)
 one_longest some xs others ys p q l m e = elim (two_cuts some xs others ys e) [ inl h ↦ longer h | inr h ↦ shorter h ]
   where
     longer : (more : List ℕ) × (others ≡ some ++ more) × (xs ≡ more ++ ys) → (some ≡ others) × (xs ≡ ys)
@@ -86,7 +86,7 @@ module _ (line place : ℕ) (text : List ℕ) where
 
   -- The next token is cut from the text at the same places.
   pub same_cut : {t u : Lexeme} {xs ys : List ℕ} → (n : IsNext line place text t xs) (m : IsNext line place text u ys)
-    → (n.blanks ≡ m.blanks) × (n.bytes ≡ m.bytes) × (xs ≡ ys)
+      → (n.blanks ≡ m.blanks) × (n.bytes ≡ m.bytes) × (xs ≡ ys)
   same_cut {xs = xs} {ys = ys} n m =
       let outer = one_blanks n.blanks m.blanks (n.bytes ++ xs) (m.bytes ++ ys) n.are_blank m.are_blank (next_solid n) (next_solid m) (sym n.parts ∙ m.parts) in
       let inner = one_longest n.bytes xs m.bytes ys (kind_lexeme n.bytes n.kind n.has_kind) (kind_lexeme m.bytes m.kind m.has_kind) n.longest m.longest outer.1 in

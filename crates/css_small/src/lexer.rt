@@ -26,7 +26,12 @@ fn newline_count(bytes: &[u8]) -> usize
 
 /// The next token of a text from a place on, which is in a line; none where only blanks are left. `NotSpelled` comes
 /// only where no tokens are spelled from there on.
-fn next_token(alloc: Global, text: &[u8], line: Line, place: u32) -> Result<Option<Token>, Unspelled>
+fn next_token(
+    alloc: Global,
+    text: &[u8],
+    line: Line,
+    place: u32,
+) -> Result<Option<Token>, Unspelled>
     requires short { length text.now ≤ 4194304 }
     requires in_text { place ≤ length text.now }
     requires in_line { line ≤ place + 1 }
@@ -47,7 +52,12 @@ fn next_token(alloc: Global, text: &[u8], line: Line, place: u32) -> Result<Opti
     let line = Line::new(line.number() + newline_count(blanks) as u32);
     let place = place + blanks.len() as u32;
     let end = place + length as u32;
-    Ok(Some(Token { kind, line, place, end }))
+    Ok(Some(Token {
+        kind,
+        line,
+        place,
+        end,
+    }))
 }
 
 /// The tokens that a text spells. `NotSpelled` comes only where it spells none.

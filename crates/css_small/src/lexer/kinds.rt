@@ -57,7 +57,10 @@ pub(super) fn token_kind(alloc: Global, bytes: &[u8]) -> Result<TokenKind, Unspe
             let Some(value) = decimal(bytes) else {
                 return Err(Unspelled::NotSpelled);
             };
-            Ok(TokenKind::Number { kind: IntType::Int, value })
+            Ok(TokenKind::Number {
+                kind: IntType::Int,
+                value,
+            })
         }
         Class::Punctuator => Ok(TokenKind::Punctuator(copied(alloc, bytes)?)),
     }

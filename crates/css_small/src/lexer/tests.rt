@@ -116,8 +116,17 @@ fn lines_and_places(rt: HostRuntime) -> Result<(), Fail> {
         Err(_) => return Err("no tokens".into()),
     };
     assert_eq!(rt; tokens.len(), 5);
-    for (token, (line, place, end)) in tokens.iter().zip([(1, 1, 3), (1, 4, 6), (2, 8, 10), (2, 11, 12), (4, 17, 18)]) {
-        assert_eq!(rt; (token.line.number(), token.place, token.end), (line, place, end));
+    for (token, (line, place, end)) in tokens.iter().zip([
+        (1, 1, 3),
+        (1, 4, 6),
+        (2, 8, 10),
+        (2, 11, 12),
+        (4, 17, 18),
+    ]) {
+        assert_eq!(rt;
+            (token.line.number(), token.place, token.end),
+            (line, place, end)
+        );
     }
     Ok(())
 }
@@ -135,6 +144,9 @@ fn long_text(rt: HostRuntime) -> Result<(), Fail> {
     };
     assert_eq!(rt; tokens.len(), 2_097_152);
     let last = tokens.last().ok_or("no last")?;
-    assert_eq!(rt; (last.line.number(), last.place, last.end), (1_048_576, 4_194_302, 4_194_303));
+    assert_eq!(rt;
+        (last.line.number(), last.place, last.end),
+        (1_048_576, 4_194_302, 4_194_303)
+    );
     Ok(())
 }

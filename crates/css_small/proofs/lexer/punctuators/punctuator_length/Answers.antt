@@ -1,4 +1,4 @@
-use Rattle.std.proofs.Common.{◌≡◌, [], length, take, Contains, inl, inr, subst, arith, length-take}
+use Rattle.std.proofs.Common.{◌≡◌, [], take, Contains, inl, inr, subst, arith, length-take}
 use Rattle.std.proofs.lemmas.Bool.{cases_lt, both_ways}
 use Rattle.css_small.specs.Spelling.{punctuators}
 use Rattle.css_small.proofs.Longest.{punctuator_size, no_front}
@@ -19,10 +19,10 @@ returns-then-is_punctuator-clause-found c = record {
 pub loop-length-preserved : goal.loop-length-preserved
 loop-length-preserved c = λ more h m held.
     elim (cases_lt c.loop-length.length more) [
-      inl longer ↦ c.loop-length.invariant more longer m held
-    | inr here ↦
-        let same : more ≡ c.loop-length.length = omega arith in
-        both_ways c.is_punctuator.result c.if-is_punctuator.false (c.is_punctuator.ensures.1 (subst (λ n. Contains punctuators (take n c.args.text.now)) same held))
+      | inl longer ↦ c.loop-length.invariant more longer m held
+      | inr here ↦
+          let same : more ≡ c.loop-length.length = omega arith in
+          both_ways c.is_punctuator.result c.if-is_punctuator.false (c.is_punctuator.ensures.1 (subst (λ n. Contains punctuators (take n c.args.text.now)) same held))
     ]
 
 pub returns-clause-none : goal.returns-clause-none

@@ -13,7 +13,7 @@ pub returns-in-Number-clause-found : goal.returns-in-Number-clause-found
 returns-in-Number-clause-found c = number_lexeme c.args.text.now c.number_length.result c.in-Number.ensures c.number_length.ensures
 
 none : (text : List ℕ) (o : Option ℕ) → BeginsAs classes.Punctuator text → IfNone o ((count : ℕ) → Contains punctuators (take count text) → ⊥)
-  → IfNone o ((count : ℕ) → IsLexeme (take count text) → ⊥)
+    → IfNone o ((count : ℕ) → IsLexeme (take count text) → ⊥)
 none text (Some n) begins h = h
 none text None begins h = no_lexeme text begins h
 
