@@ -1,8 +1,7 @@
 -- Which text spells which tokens, and which tokens spell which tree.
-use Rattle.std.specs.Prelude.{◌≡◌, ◌≢◌, ℕ, ◌+◌, ◌*◌, ◌-◌, ◌<◌, ◌≤◌, ◌⊎◌, List, [], ◌∷◌, ◌++◌, length, All, Any, Contains, codes, fold, count_by, nat_eq, ◌==◌}
+use Rattle.std.specs.Prelude.{◌≡◌, ℕ, ◌+◌, ◌*◌, ◌-◌, ◌≤◌, ◌⊎◌, List, [], ◌∷◌, ◌++◌, length, All, Contains, codes, fold, count_by, ◌==◌}
 use Rattle.css_base.specs.declared.int_type.IntType.TheVariants as types
 use Rattle.css_base.specs.Tokens.{Kind, Word, Number, Punctuator, Lexeme, At}
-use Rattle.css_small.specs.Tree.{Statement, Program}
 
 -- White space: bytes 9 to 13 and space.
 abbrev pub IsBlank : ℕ → Type 0
