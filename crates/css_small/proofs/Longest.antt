@@ -3,8 +3,8 @@ use Rattle.std.proofs.Common.{◌≡◌, ◌⊎◌, ℕ, zero, suc, ◌+◌, ◌
 use Rattle.std.proofs.lemmas.Bool.{leb-true, and_parts}
 use Rattle.std.proofs.lemmas.List.{length-take, length-take-le, take_min, length-append, take-append-drop, take_at}
 use Rattle.std.proofs.lemmas.List.Elements.{All-from_get_or}
-use Rattle.css_small.specs.Spelling.{IsBlank, IsDigit, IsNondigit, IsWord, IsNumber, IsNumberTail, IsLexeme, IsLongest, punctuators}
-use Rattle.css_small.specs.Lexing.{IsLongestFront, GoesOn, BeginsNumber, BeginsAs}
+use Rattle.css_small.specs.Spelling.{IsBlank, IsDigit, IsNondigit, IsWord, IsNumber, IsNumberTail, IsLexeme, IsLongest, punctuators, GoesOn}
+use Rattle.css_small.specs.Lexing.{IsLongestFront, BeginsNumber, BeginsAs}
 use Rattle.css_small.specs.declared.lexer.scan.Class.TheVariants as classes
 use Rattle.css_small.proofs.Tables.{passes}
 use Rattle.css_small.proofs.Openings.{apart, word_begins, number_begins, punctuator_begins, front_nondigit, front_number}
