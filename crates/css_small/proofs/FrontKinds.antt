@@ -2,7 +2,7 @@
 use Rattle.std.proofs.Common.{◌≡◌, List, [], ◌∷◌, ◌++◌, map, length, refl, sym, ap, ◌∙◌, arith}
 use Rattle.std.proofs.lemmas.List.{length-map}
 use Rattle.css_base.specs.Tokens.{Kind, Lexeme}
-use Rattle.css_small.specs.Grammar.{Are, kind_at, first_line}
+use Rattle.css_small.specs.Grammar.{kind_at, first_line}
 use Rattle.css_small.specs.Fronts.{Begins, HaveKinds, HasNext}
 
 -- a token of the kind stands first

@@ -1,18 +1,14 @@
 -- Puts one after another.
-use Rattle.std.proofs.Common.{◌≡◌, ℕ, ◌+◌, ◌<◌, List, [], ◌∷◌, ◌++◌, map, length, refl, sym, ap, ◌∙◌, subst, arith, append_assoc, length-append}
-use Rattle.std.proofs.lemmas.List.{append-nil, length-map}
-use Rattle.css_base.specs.Tokens.{Kind, Punctuator, Lexeme}
-use Rattle.std.proofs.Common.{codes}
-use Rattle.css_small.specs.Tree.{Statement, Program}
-use Rattle.css_small.specs.Grammar.{kind_at, first_line, SpellsPut, SpellsPuts, SpellsReturn, SpellsProgram}
-use Rattle.css_small.specs.Fronts.{Begins, BeginsNone, HaveKinds, SpellsOpening}
+use Rattle.std.proofs.Common.{◌≡◌, ℕ, List, [], ◌∷◌, ◌++◌, map, refl, sym, ap, ◌∙◌, subst, append_assoc}
+use Rattle.std.proofs.lemmas.List.{append-nil}
+use Rattle.css_base.specs.Tokens.{Lexeme}
+use Rattle.css_small.specs.Tree.{Statement}
+use Rattle.css_small.specs.Grammar.{kind_at, first_line, SpellsPut, SpellsPuts, SpellsReturn}
+use Rattle.css_small.specs.Fronts.{Begins, BeginsNone, SpellsOpening}
 use Rattle.css_small.proofs.FrontKinds.{kinds_same, first_kinds_same}
 use Rattle.css_small.proofs.Productions.{opening_kinds, put_kinds, return_kinds}
 
--- no puts take no tokens
-pub no_puts : (tokens : List Lexeme) → Begins SpellsPuts tokens [] tokens
-no_puts tokens = record { front = []; parts = refl; spells = refl }
-
+-- some puts and one more
 SpellsPuts-append : (a b : List Lexeme) (puts : List Statement) (put : Statement) → SpellsPuts a puts → SpellsPut b put → SpellsPuts (a ++ b) (puts ++ put ∷ [])
 SpellsPuts-append a b [] put none is =
     let e : a ++ b ≡ b ++ [] = ap (λ l. l ++ b) none ∙ sym (append-nil b) in
@@ -29,18 +25,14 @@ one_more_put {puts} {put} {tokens} {rest} {others} b d = record {
   spells = SpellsPuts-append b.front d.front puts put b.spells d.spells;
 }
 
--- a put takes tokens
-pub put_shorter : {put : Statement} {tokens rest : List Lexeme} → Begins SpellsPut tokens put rest → length rest < length tokens
-put_shorter {put} {tokens} {rest} b =
-    let taken : length b.front ≡ 5 = sym (length-map b.front kind_at) ∙ ap length b.spells.0.0 in
-    omega (arith, ap length b.parts, length-append b.front rest, taken)
-
+-- a statement is its number and its line
 statement_same : (s q : Statement) → s.number ≡ q.number → s.line ≡ q.line → s ≡ q
 statement_same s q numbers lines =
     let f : ℕ → Statement = λ n. record { number = n; line = s.line } in
     let g : ℕ → Statement = λ l. record { number = q.number; line = l } in
     ap f numbers ∙ ap g lines
 
+-- one front is one put
 put_same : {put other : Statement} {tokens rest others : List Lexeme} → Begins SpellsPut tokens put rest → Begins SpellsPut tokens other others → (put ≡ other) × (rest ≡ others)
 put_same {put} {other} b d =
     let same = kinds_same (put_kinds b) (put_kinds d) refl in
@@ -66,9 +58,11 @@ opening_same b d =
 pub return_is_no_put : {result : Statement} {tokens rest : List Lexeme} → Begins SpellsReturn tokens result rest → BeginsNone SpellsPut tokens
 return_is_no_put b = λ put rest d. let e = first_kinds_same (return_kinds b) (put_kinds d) in absurd cc
 
+-- the first of some puts, whatever follows them
 first_put : (a r front rest : List Lexeme) (put : Statement) → a ≡ front ++ rest → SpellsPut front put → Begins SpellsPut (a ++ r) put (rest ++ r)
 first_put a r front rest put e is = record { front = front; parts = ap (λ l. l ++ r) e ∙ append_assoc front rest r; spells = is }
 
+-- two splits of one list into puts and what begins with none
 puts_in : (a b r s : List Lexeme) (puts others : List Statement) → SpellsPuts a puts → SpellsPuts b others → a ++ r ≡ b ++ s → BeginsNone SpellsPut r → BeginsNone SpellsPut s → (puts ≡ others) × (r ≡ s)
 puts_in a b r s [] [] p q e no_r no_s = (refl, sym (ap (λ l. l ++ r) p) ∙ e ∙ ap (λ l. l ++ s) q)
 puts_in a b r s [] (o ∷ os) p q e no_r no_s =

@@ -32,22 +32,6 @@ reads {tokens} {p} s =
       closes = s.closes;
     }
 
--- parts behind one another are a program
-pub program_from_parts : {tokens statements end tail : List Lexeme} {p : Program} → Begins SpellsOpening tokens p.line statements → Begins SpellsPuts statements p.puts end → Begins SpellsReturn end p.result tail → map kind_at tail ≡ Punctuator (codes "}") ∷ [] → SpellsProgram tokens p
-program_from_parts {tokens} {statements} {end} {tail} {p} opens puts result closes =
-    let at : statements ≡ puts.front ++ (result.front ++ tail) = puts.parts ∙ ap (λ l. puts.front ++ l) result.parts in
-    record {
-      head = opens.front;
-      puts = puts.front;
-      result = result.front;
-      tail = tail;
-      parts = opens.parts ∙ ap (λ l. opens.front ++ l) at;
-      opens = opens.spells;
-      spells_puts = puts.spells;
-      spells_result = result.spells;
-      closes = closes;
-    }
-
 -- what stands behind the opening and all puts
 pub record Ends (p : Program) (line : ℕ) (puts : List Statement) (end : List Lexeme) : Type 0 where
   pub line_is : line ≡ p.line
@@ -71,6 +55,7 @@ ends {tokens} {statements} {end} {line} {puts} {p} spelled opens taken all =
       closes = r.closes;
     }
 
+-- a program is its line, its puts and its return
 program_same : (p q : Program) → p.line ≡ q.line → p.puts ≡ q.puts → p.result ≡ q.result → p ≡ q
 program_same p q lines puts results =
     let f : ℕ → Program = λ l. record { line = l; puts = p.puts; result = p.result } in

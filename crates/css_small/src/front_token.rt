@@ -61,7 +61,7 @@ pub(crate) fn constant_of(tokens: &[Token]) -> Option<(u32, &[Token])>
 }
 
 /// Whether the token is this word.
-pub(crate) fn is_word(token: &Token, word: &[u8]) -> bool
+fn is_word(token: &Token, word: &[u8]) -> bool
     ensures { IsTrue result ↔ (kind_at (lexeme token.now) ≡ Word word.now) }
 {
     match &token.kind {

@@ -1,4 +1,3 @@
-use Rattle.css_base.specs.Tokens.{lexemes}
 use Rattle.css_small.proofs.FrontKinds.{first_of, behind, ahead, none_left}
 use Rattle.css_small.proofs.Productions.{opening_kinds, opening_from_kinds}
 use Rattle.css_small.proofs.parser.opening_of.Goals as goal
