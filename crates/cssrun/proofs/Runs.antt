@@ -59,30 +59,6 @@ run_answer_status p a is =
     let e : a.status ≡ ending_status (endings.Result is.runs.result) = is.status_is ∙ ap ending_status is.runs.ending_is in
     omega (arith, result_status is.runs.result)
 
-size_of : Action → ℕ
-size_of (Enter size) = size
-size_of _ = 0
-
-silent : World
-silent tape item = Ends
-
--- the frame that the newest item enters
-entered_size : Tape → ℕ
-entered_size [] = 0
-entered_size (item ∷ tape) = size_of item.action
-
-frame_entered : (f : Routine) (line n : ℕ) → target silent f n ≡ Stops Over (record { action = Enter 0; line = line } ∷ []) → f.frame ≡ 0
-unfolding silent size_of entered_size
-frame_entered f line zero same = absurd cc
-frame_entered f line (suc n) same = ap (λ o. entered_size (tape_of o)) same
-
--- a program's code has an empty frame
-pub frame-coded : (f : Routine) (p : Program) → Codes f p → f.frame ≡ 0
-unfolding silent
-frame-coded f p codes =
-    let over = codes.is_over silent _ refl in
-    frame_entered f p.line over.0 over.1
-
 -- a program's code has its run
 pub Finishes-coded : (f : Routine) (p : Program) → Codes f p → (tape : Tape) × (source (flat memory) p ≡ Goes (pos p.result.number) tape) × Finishes memory f (pos p.result.number) tape
 Finishes-coded f p codes =

@@ -7,6 +7,8 @@ mod laws;
 mod pending;
 mod request;
 mod run;
+#[cfg(test)]
+mod tests;
 mod top;
 
 use css_base::Words;

@@ -7,7 +7,7 @@ use Rattle.css_small.specs.Tree.{program}
 use Rattle.cssrun.specs.Answer.{IsRunAnswer}
 use Rattle.cssrun.specs.Ends.{change}
 use Rattle.cssrun.proofs.Endings.{ends_no_memory, ends_out_failed}
-use Rattle.cssrun.proofs.Runs.{frame-coded, Finishes-coded, run_prefix, run_ended}
+use Rattle.cssrun.proofs.Runs.{Finishes-coded, run_prefix, run_ended}
 use Rattle.cssrun.proofs.Sinks.{AppendsPrefix-nothing}
 use Rattle.cssrun.proofs.top.run_program.Goals as goal
 
@@ -15,7 +15,7 @@ pub returns-in_default : goal.returns-in_default
 returns-in_default g c = ends_no_memory _ _ _ _ (λ a one. AppendsPrefix-nothing _ a.out) c.finish.ensures
 
 pub run_main-requires-clause-frame : goal.run_main-requires-clause-frame
-run_main-requires-clause-frame g c = omega (arith, frame-coded (routine c.in-Ok.code) (program c.args.tree.now) c.in-Ok.ensures)
+run_main-requires-clause-frame g c = omega (arith, c.in-Ok.ensures.frame)
 
 pub returns-in-Result : goal.returns-in-Result
 returns-in-Result g c =

@@ -1,0 +1,220 @@
+//! Calls of the program over files, input and sinks in memory.
+
+use crate::top::plain_top;
+use css_base::Words;
+use css_io::{MemShelf, MemSink, MemSource, read_all};
+use std::alloc::{AllocError, Global};
+use std::process::Abort;
+use std::test::Fail;
+
+const PUT_A: &str = "int main(void) { putchar(97); return 0; }";
+
+const PUT_A_AND_B: &str = "int main(void) { putchar(97); putchar(98); return 0; }";
+
+/// The sinks' bytes and the status of a call.
+#[derive(Drop)]
+struct Called {
+    out: MemSink,
+    report: MemSink,
+    status: u8,
+}
+
+/// Where a call's shelf and sinks fail: the numbers of their calls, and the sinks' rooms.
+#[derive(Clone, Copy)]
+struct Failing {
+    shelf: &'static [u64],
+    out: &'static [u64],
+    out_room: usize,
+    report: &'static [u64],
+    report_room: usize,
+}
+
+const NOTHING_FAILS: Failing = Failing {
+    shelf: &[],
+    out: &[],
+    out_room: 64,
+    report: &[],
+    report_room: 64,
+};
+
+fn words_of(alloc: Global, words: &[&str]) -> Result<Words, AllocError> {
+    let mut owned = Vec::new(alloc);
+    for word in words {
+        owned.push(String::from_str(alloc, word)?)?;
+    }
+    Ok(Words::new(owned))
+}
+
+/// Calls the program with these words and one file, and sees that no input was taken.
+fn call(
+    rt: &(impl Abort + AllocGlobal),
+    words: &[&str],
+    file: (&str, &[u8]),
+    failing: &Failing,
+) -> Result<Called, Fail> {
+    let alloc = rt.alloc();
+    let (name, text) = file;
+    let files = vec![in alloc; (String::from_str(alloc, name)?, text.to_vec(alloc)?)]?;
+    let mut shelf = MemShelf::new(files, failing.shelf.to_vec(alloc)?);
+    let mut input = MemSource::new(b"input".to_vec(alloc)?, Vec::new(alloc));
+    let mut out = MemSink::new(alloc, failing.out_room, failing.out.to_vec(alloc)?)?;
+    let mut report = MemSink::new(alloc, failing.report_room, failing.report.to_vec(alloc)?)?;
+    let words = words_of(alloc, words)?;
+    let status = plain_top(alloc, &words, &mut shelf, &mut input, &mut out, &mut report);
+    let left = read_all(alloc, &mut input, 5)?;
+    assert_eq!(rt; left.as_slice(), b"input".as_slice());
+    Ok(Called {
+        out,
+        report,
+        status,
+    })
+}
+
+/// Sees what a call gave.
+fn expect(rt: &impl Abort, called: &Called, out: &str, report: &str, status: u8) {
+    assert_eq!(rt; called.out.written(), out.as_bytes());
+    assert_eq!(rt; called.report.written(), report.as_bytes());
+    assert_eq!(rt; called.status, status);
+}
+
+#[test]
+fn texts_are_answered(rt: HostRuntime) -> Result<(), Fail> {
+    let rows = [
+        (PUT_A, "a", "result 0\n", 0),
+        (PUT_A_AND_B, "ab", "result 0\n", 0),
+        ("int main(void) { return 7; }", "", "result 7\n", 1),
+        (
+            "int main(void) { return 0 }",
+            "",
+            "static S0 NotBuilt line 1\n",
+            3,
+        ),
+        ("", "", "static S0 NotBuilt line 1\n", 3),
+    ];
+    for (text, out, report, status) in rows {
+        let words = ["cssrun", "erased", "f.c"];
+        let called = call(&rt, &words, ("f.c", text.as_bytes()), &NOTHING_FAILS)?;
+        expect(&rt, &called, out, report, status);
+    }
+    Ok(())
+}
+
+#[test]
+fn words_are_refused(rt: HostRuntime) -> Result<(), Fail> {
+    let rows: [&[&str]; 7] = [
+        &[],
+        &["cssrun"],
+        &["cssrun", "erased"],
+        &["cssrun", "run", "f.c"],
+        &["cssrun", "erased", "-x"],
+        &["cssrun", "erased", "f.c", "f.c"],
+        &["cssrun", "Erased", "f.c"],
+    ];
+    for words in rows {
+        let called = call(&rt, words, ("f.c", PUT_A.as_bytes()), &NOTHING_FAILS)?;
+        expect(&rt, &called, "", "words refused\n", 2);
+    }
+    Ok(())
+}
+
+#[test]
+fn words_name_the_file(rt: HostRuntime) -> Result<(), Fail> {
+    let file = ("-", PUT_A.as_bytes());
+    let called = call(&rt, &["cssrun", "erased", "-"], file, &NOTHING_FAILS)?;
+    expect(&rt, &called, "a", "result 0\n", 0);
+    let called = call(&rt, &["", "erased", "f.c"], file, &NOTHING_FAILS)?;
+    expect(&rt, &called, "", "read fault\n", 6);
+    Ok(())
+}
+
+#[test]
+fn failures_cut_a_call_short(rt: HostRuntime) -> Result<(), Fail> {
+    let rows = [
+        (
+            Failing {
+                shelf: &[0],
+                ..NOTHING_FAILS
+            },
+            "",
+            "read fault\n",
+            6,
+        ),
+        (
+            Failing {
+                shelf: &[0],
+                report: &[0],
+                ..NOTHING_FAILS
+            },
+            "",
+            "",
+            7,
+        ),
+        (
+            Failing {
+                shelf: &[1],
+                out: &[1],
+                report: &[1],
+                ..NOTHING_FAILS
+            },
+            "ab",
+            "result 0\n",
+            0,
+        ),
+        (
+            Failing {
+                out: &[0],
+                ..NOTHING_FAILS
+            },
+            "",
+            "",
+            7,
+        ),
+        (
+            Failing {
+                out_room: 1,
+                ..NOTHING_FAILS
+            },
+            "a",
+            "",
+            7,
+        ),
+        (
+            Failing {
+                report: &[0],
+                ..NOTHING_FAILS
+            },
+            "ab",
+            "",
+            7,
+        ),
+        (
+            Failing {
+                report_room: 3,
+                ..NOTHING_FAILS
+            },
+            "ab",
+            "res",
+            7,
+        ),
+    ];
+    for (failing, out, report, status) in &rows {
+        let words = ["cssrun", "erased", "f.c"];
+        let called = call(&rt, &words, ("f.c", PUT_A_AND_B.as_bytes()), failing)?;
+        expect(&rt, &called, out, report, *status);
+    }
+    Ok(())
+}
+
+/// A text of 4,194,304 bytes is read, and one more is too long.
+#[test]
+fn texts_have_a_longest(rt: HostRuntime) -> Result<(), Fail> {
+    let mut text = PUT_A.as_bytes().to_vec(rt.alloc())?;
+    text.resize(4_194_304, b' ')?;
+    let words = ["cssrun", "erased", "f.c"];
+    let called = call(&rt, &words, ("f.c", text.as_slice()), &NOTHING_FAILS)?;
+    expect(&rt, &called, "a", "result 0\n", 0);
+    text.push(b' ')?;
+    let called = call(&rt, &words, ("f.c", text.as_slice()), &NOTHING_FAILS)?;
+    expect(&rt, &called, "", "static S0 NotBuilt line 1\n", 3);
+    Ok(())
+}
