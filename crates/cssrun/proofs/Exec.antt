@@ -1,5 +1,5 @@
 -- Runs of the machine: once a run has ended more steps change nothing, and a tape only grows.
-use Rattle.std.proofs.Common.{◌≡◌, ℕ, zero, suc, ◌+◌, List, [], ◌∷◌, ◌++◌, refl, sym, ap, ◌∙◌, subst, append_assoc, add-zero, add-suc}
+use Rattle.std.proofs.Common.{◌≡◌, ℕ, zero, suc, ◌+◌, List, [], ◌∷◌, ◌++◌, refl, sym, ap, ◌∙◌, append_assoc, add-zero, add-suc}
 use Rattle.std.proofs.lemmas.List.{append-nil}
 use Rattle.css_semantics.specs.Dialogue.{Action, Enter, Leave, Out, End, Item, Tape, Reply, Says, Ends, World, Outcome, Goes, Stops, then_do, replied, ask, output, written_by}
 use Rattle.css_vm.specs.declared.code.Instr.{Instr}
@@ -8,7 +8,7 @@ use Rattle.css_vm.specs.declared.code.Op.TheVariants as ops
 use Rattle.css_vm.specs.declared.code.Conversion.TheVariants as conversions
 use Rattle.std.specs.Prelude.{Option, Some, None, slice_get}
 use Rattle.css_vm.specs.Code.{Routine, first_line}
-use Rattle.css_vm.specs.Machine.{State, Begin, At, Halt, After, Ended, On, leaving, ended, effect, at_instr, step, go_on, exec}
+use Rattle.css_vm.specs.Machine.{State, Begin, At, Halt, After, Ended, On, leaving, effect, at_instr, step, go_on, exec}
 
 after-suc : (w : World) (f : Routine) (n : ℕ) (o : Outcome After) (h : Halt) (last : Tape)
     → ((s : State) (t : Tape) → exec w f n s t ≡ Goes h last → exec w f (suc n) s t ≡ Goes h last)

@@ -1,12 +1,12 @@
 -- Programs of the small language have a run in the flat memory.
-use Rattle.std.proofs.Common.{◌≡◌, ℕ, ℤ, pos, ◌%◌, ◌-◌, ◌≤◌, List, [], ◌∷◌, length, refl, ap}
+use Rattle.std.proofs.Common.{◌≡◌, ℕ, pos, ◌%◌, ◌-◌, ◌≤◌, List, [], ◌∷◌, length, refl, ap}
 use Rattle.css_base.specs.declared.ending.Ending.TheVariants as endings
 use Rattle.css_semantics.specs.Dialogue.{Tape, Enter, Out, Goes, output, then_do}
 use Rattle.css_semantics.specs.Flat.{flat}
 use Rattle.css_small.specs.Tree.{Statement, Program}
 use Rattle.css_small.specs.Grammar.{Spells}
 use Rattle.css_small_code.specs.Meaning.{source, meaning_of_puts, meaning_of_return}
-use Rattle.cssrun.specs.Answer.{Answer, Runs, IsRunAnswer, IsTextAnswer, Ended, ending_line, ending_status, memory}
+use Rattle.cssrun.specs.Answer.{Answer, Runs, IsTextAnswer, Ended, ending_line, ending_status, memory}
 
 puts_go : (m : ℕ) (puts : List Statement) (tape : Tape) → (r : ℕ) × (last : Tape) × (meaning_of_puts (flat m) puts tape ≡ Goes r last)
 puts_go m [] tape = (0, tape, refl)

@@ -1,21 +1,18 @@
 -- The one answer of a program's run, and how the run of its code gives it.
-use Rattle.std.proofs.Common.{◌≡◌, ℕ, zero, suc, ℤ, pos, negsuc, ◌≤◌, ◌⊎◌, inl, inr, List, [], ◌∷◌, refl, sym, ap, ◌∙◌, subst, arith}
-use Rattle.css_base.specs.declared.ending.Ending.{Ending}
+use Rattle.std.proofs.Common.{◌≡◌, ℕ, zero, suc, ℤ, pos, negsuc, ◌≤◌, ◌⊎◌, inl, inr, List, refl, sym, ap, ◌∙◌, subst, arith}
 use Rattle.css_base.specs.declared.ending.Ending.TheVariants as endings
-use Rattle.css_semantics.specs.Dialogue.{Action, Enter, Tape, World, Ends, Goes, Stops, Over, output}
+use Rattle.css_semantics.specs.Dialogue.{Tape, Goes, output}
 use Rattle.css_semantics.specs.Flat.{flat}
 use Rattle.css_vm.specs.Code.{Routine}
-use Rattle.css_vm.specs.Machine.{target}
 use Rattle.cssrun.proofs.Sinks.{AppendsPrefix-whole}
 use Rattle.css_small.specs.Tree.{Program}
 use Rattle.css_small_code.specs.Meaning.{source}
 use Rattle.css_small_code.specs.Correct.{Codes}
-use Rattle.cssrun.specs.Answer.{Answer, Runs, IsRunAnswer, ending_line, ending_status, no_memory, memory}
+use Rattle.cssrun.specs.Answer.{Answer, IsRunAnswer, ending_line, ending_status, no_memory, memory}
 use Rattle.cssrun.specs.Ends.{Change, Got, GotPrefix}
 use Rattle.cssrun.specs.Ends as ways
 use Rattle.cssrun.specs.Running.{Finishes}
 use Rattle.cssrun.proofs.Endings.{ends_answer, ends_no_memory}
-use Rattle.cssrun.proofs.Exec.{tape_of}
 use Rattle.cssrun.proofs.Programs.{source_goes}
 
 -- the answer of a run with this result and tape

@@ -1,11 +1,11 @@
 -- Main's run in the flat memory, from event to event.
 use Rattle.std.proofs.Common.{◌≡◌, ℕ, zero, suc, ℤ, ◌+◌, ◌-◌, ◌≤◌, List, [], ◌∷◌, ◌++◌, length, refl, sym, ap, ◌∙◌, subst, append_assoc, arith}
 use Rattle.std.proofs.lemmas.List.{append-nil}
-use Rattle.css_semantics.specs.Dialogue.{Tape, Goes, World, output}
+use Rattle.css_semantics.specs.Dialogue.{Tape, Goes, output}
 use Rattle.css_semantics.specs.Flat.{flat}
 use Rattle.css_vm.specs.declared.machine.Event.TheVariants as events
 use Rattle.css_vm.specs.Code.{Routine, int_of}
-use Rattle.css_vm.specs.Machine.{State, Begin, At, Finished, exec, target, leaving, answered}
+use Rattle.css_vm.specs.Machine.{State, Begin, At, Finished, exec, leaving, answered}
 use Rattle.css_vm.specs.Soundness.{Spot, IsSound, IsAt}
 use Rattle.css_vm.specs.Events.{Reaches, IfOwed, Falls, base_of}
 use Rattle.cssrun.specs.Ends.{Change}

@@ -4,8 +4,8 @@ use Rattle.css_semantics.specs.Dialogue.{Tape, Goes, output}
 use Rattle.css_semantics.specs.Flat.{flat}
 use Rattle.css_vm.specs.Code.{Routine}
 use Rattle.css_vm.specs.Machine.{State, Finished, exec, target}
-use Rattle.css_vm.specs.Events.{Falls, base_of}
-use Rattle.cssrun.specs.Ends.{Change, HasFailed, Got, GotPrefix}
+use Rattle.css_vm.specs.Events.{Falls}
+use Rattle.cssrun.specs.Ends.{Change, Got}
 use Rattle.cssrun.specs.declared.run.Ran.{Ran}
 use Rattle.cssrun.specs.Ran.{RanAs}
 

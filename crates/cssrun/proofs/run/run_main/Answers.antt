@@ -1,7 +1,6 @@
-use Rattle.std.proofs.Common.{◌≡◌, ◌++◌, ◌-◌, ◌+◌, ◌≤◌, [], ap, sym, subst, refl, length, add-zero, arith}
+use Rattle.std.proofs.Common.{◌++◌, ◌-◌, [], arith}
 use Rattle.css_io.proofs.Told.{Appends-more}
 use Rattle.css_vm.specs.Code.{routine}
-use Rattle.css_vm.specs.Machine.{At}
 use Rattle.cssrun.proofs.Sinks.{Appends-nothing, RanAs-more}
 use Rattle.cssrun.proofs.Turns.{running_begun, begins_at}
 use Rattle.cssrun.proofs.run.run_main.Goals as goal

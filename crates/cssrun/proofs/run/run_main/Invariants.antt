@@ -1,4 +1,4 @@
-use Rattle.std.proofs.Common.{◌≡◌, ◌≤◌, ◌+◌, ℕ, ℤ, List, ◌++◌, length}
+use Rattle.std.proofs.Common.{◌≤◌, ◌+◌, ℕ, ℤ, List, ◌++◌, length}
 use Rattle.css_semantics.specs.Dialogue.{Tape}
 use Rattle.css_vm.specs.Code.{routine}
 use Rattle.css_vm.specs.Soundness.{Spot, IsSound, IsAt}

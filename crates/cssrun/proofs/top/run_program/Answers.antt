@@ -1,4 +1,4 @@
-use Rattle.std.proofs.Common.{◌≡◌, ◌∙◌, sym, ap, pos, rules, arith, FitsSigned}
+use Rattle.std.proofs.Common.{◌∙◌, sym, ap, pos, rules, arith, FitsSigned}
 use Rattle.std.specs.Int.{w32}
 use Rattle.std.proofs.lemmas.Int.{to_z-of_z}
 use Rattle.css_semantics.specs.Dialogue.{Goes}
