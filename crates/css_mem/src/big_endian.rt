@@ -26,9 +26,7 @@ pub(crate) fn number_of(width: Width, bytes: &[u8]) -> u64
     match width {
         Width::W8 => u64::from(bytes[0]),
         Width::W16 => u64::from(u16::from_be_bytes([bytes[0], bytes[1]])),
-        Width::W32 => u64::from(u32::from_be_bytes([
-            bytes[0], bytes[1], bytes[2], bytes[3],
-        ])),
+        Width::W32 => u64::from(u32::from_be_bytes([bytes[0], bytes[1], bytes[2], bytes[3]])),
         Width::W64 => u64::from_be_bytes([
             bytes[0], bytes[1], bytes[2], bytes[3], bytes[4], bytes[5], bytes[6], bytes[7],
         ]),
@@ -44,7 +42,11 @@ pub(crate) fn write_number(bytes: &mut [u8], index: usize, width: Width, number:
     match width {
         Width::W8 => overwrite(bytes, index, &[(number % 0x100) as u8]),
         Width::W16 => overwrite(bytes, index, &((number % 0x1_0000) as u16).to_be_bytes()),
-        Width::W32 => overwrite(bytes, index, &((number % 0x1_0000_0000) as u32).to_be_bytes()),
+        Width::W32 => overwrite(
+            bytes,
+            index,
+            &((number % 0x1_0000_0000) as u32).to_be_bytes(),
+        ),
         Width::W64 => overwrite(bytes, index, &number.to_be_bytes()),
     }
 }

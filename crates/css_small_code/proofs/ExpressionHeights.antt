@@ -142,8 +142,8 @@ module _ (heights : List ℕ) where
       let end_b : HeightIs (mid + length cb) (height + 1 + 1) = same_height there (omega arith) seam in
       both_fit heights place height (height + 2) (ca ++ cb) (binary_code op) both
       (both_fit heights place height (height + 1) ca cb one
-          (first place height (heights_front heights place height ca cb operands) seam_a)
-          (second mid (height + 1) (heights_back heights place height (height + 1) ca cb one operands) end_b))
+      (first place height (heights_front heights place height ca cb operands) seam_a)
+      (second mid (height + 1) (heights_back heights place height (height + 1) ca cb one operands) end_b))
       (straight_fit heights (place + length (ca ++ cb)) (height + 2) (binary_code op) (binary_finds op height))
 
   and_fits : (a b : Expression) → FitsAt a → FitsAt b → FitsAt (And a b)
@@ -172,13 +172,13 @@ module _ (heights : List ℕ) where
       let fit_a = first place height (heights_front heights place height ca jumped operands) jump.0 in
       let fit_b = second (mid + 1) height (subst (λ k. HeightsStand heights (mid + 1) k cb) low jump.1) (same_height place_truth refl truth.0) in
       let fit_jumped : AllFit heights mid (height + 1) jumped =
-          (omega arith, (omega arith, same_height place_no refl back.1.0), subst (λ k. AllFit heights (mid + 1) k cb) (sym low) fit_b) in
+      (omega arith, (omega arith, same_height place_no refl back.1.0), subst (λ k. AllFit heights (mid + 1) k cb) (sym low) fit_b) in
       let fit_last : AllFit heights (place + length (tested ++ truth_code)) (height + 1) last =
-          (omega arith, (omega (arith, place_jump), same_height place_end refl end), (omega arith, tt, tt)) in
+      (omega arith, (omega (arith, place_jump), same_height place_end refl end), (omega arith, tt, tt)) in
       both_fit heights place height (height + 1) (tested ++ truth_code) last all
       (both_fit heights place height (height + 1) tested truth_code both
-          (both_fit heights place height (height + 1) ca jumped one fit_a fit_jumped)
-          (straight_fit heights (place + length tested) (height + 1) truth_code (truth_finds height)))
+      (both_fit heights place height (height + 1) ca jumped one fit_a fit_jumped)
+      (straight_fit heights (place + length tested) (height + 1) truth_code (truth_finds height)))
       fit_last
 
   or_fits : (a b : Expression) → FitsAt a → FitsAt b → FitsAt (Or a b)

@@ -56,8 +56,8 @@ module _ (w : World) (f : Routine) (base line n : ℕ) where
       let same : end ≡ place + length (code ++ unary_code op) = omega (arith, length-append code (unary_code op)) in
       value_at w f base end (place + length (code ++ unary_code op)) same
       (runs_known (IsInRange Int) (in_range t) (operand place stack t (ops_front f.body line place code (unary_code op) h)) (λ v t' int.
-          let result = unary_value op Int v in
-          runs_steps (length (unary_code op)) (λ k. Value w f base end stack k result t') (λ k. unary_runs w f line base mid op v stack t' k behind int) (runs_done n (Value w f base end stack) result t')))
+      let result = unary_value op Int v in
+      runs_steps (length (unary_code op)) (λ k. Value w f base end stack k result t') (λ k. unary_runs w f line base mid op v stack t' k behind int) (runs_done n (Value w f base end stack) result t')))
 
   -- an operator's value, or its fault
   given_runs : (op : BinOp) (x y : ℤ) (o : Option ℤ) (place : ℕ) (stack : List ℕ) (t : Tape) → binary_value op Int x y ≡ o → OpsStand f.body line place (binary_code op) → IsInRange Int x → IsInRange Int y →
@@ -81,8 +81,8 @@ module _ (w : World) (f : Routine) (base line n : ℕ) where
       let same : end ≡ place + length (ca ++ cb ++ binary_code op) = omega (arith, seam, length-append (ca ++ cb) (binary_code op)) in
       value_at w f base end (place + length (ca ++ cb ++ binary_code op)) same
       (runs_known (IsInRange Int) (first_int t) (first place stack t (ops_front f.body line place ca cb both)) (λ x t' x_int.
-          runs_known (IsInRange Int) (second_int t') (second mid (cell_of x ∷ stack) t' (ops_back f.body line place ca cb both)) (λ y t'' y_int.
-              given_runs op x y (binary_value op Int x y) (mid + length cb) stack t'' refl last x_int y_int)))
+      runs_known (IsInRange Int) (second_int t') (second mid (cell_of x ∷ stack) t' (ops_back f.body line place ca cb both)) (λ y t'' y_int.
+      given_runs op x y (binary_value op Int x y) (mid + length cb) stack t'' refl last x_int y_int)))
 
   -- a jump where a value is 0
   jumpz_runs : {land : Landing ℤ} (to place : ℕ) (x : ℤ) (stack : List ℕ) (t : Tape) (past there : Outcome ℤ) (zero : Bool) → int_eq x (pos 0) ≡ zero → IsInRange Int x → OpAt w f base line place (ops.Jumpz to) →
@@ -121,11 +121,11 @@ module _ (w : World) (f : Routine) (base line n : ℕ) where
       let same : no + 1 ≡ place + length (tested ++ truth_code ++ last) = omega (arith, place_jump, length-append (tested ++ truth_code) last) in
       value_at w f base (no + 1) (place + length (tested ++ truth_code ++ last)) same
       (runs_known (IsInRange Int) (first_int t) (first place stack t (ops_front f.body line place ca (ops.Jumpz no ∷ cb) operands)) (λ x t' x_int.
-          jumpz_runs no mid x stack t' (then_do (value_of w base b line t') (λ y t''. Goes (truth_value (is_true y)) t'')) (Goes (pos 0) t') (int_eq x (pos 0)) refl x_int jump.0
-          (runs_known (IsInRange Int) (second_int t') (second (mid + 1) stack t' jump.1) (λ y t'' y_int.
-              let result = truth_value (is_true y) in
-              truth_runs behind y stack t'' y_int truth (runs_quiet w f base line (ops.Jump (no + 1)) (no + 1) (cell_of result ∷ stack) over.0 refl (runs_done n (Value w f base (no + 1) stack) result t''))))
-          (runs_quiet w f base line (ops.Push (pos 0)) (no + 1) (cell_of (pos 0) ∷ stack) zero refl (runs_done n (Value w f base (no + 1) stack) (pos 0) t'))))
+      jumpz_runs no mid x stack t' (then_do (value_of w base b line t') (λ y t''. Goes (truth_value (is_true y)) t'')) (Goes (pos 0) t') (int_eq x (pos 0)) refl x_int jump.0
+      (runs_known (IsInRange Int) (second_int t') (second (mid + 1) stack t' jump.1) (λ y t'' y_int.
+      let result = truth_value (is_true y) in
+      truth_runs behind y stack t'' y_int truth (runs_quiet w f base line (ops.Jump (no + 1)) (no + 1) (cell_of result ∷ stack) over.0 refl (runs_done n (Value w f base (no + 1) stack) result t''))))
+      (runs_quiet w f base line (ops.Push (pos 0)) (no + 1) (cell_of (pos 0) ∷ stack) zero refl (runs_done n (Value w f base (no + 1) stack) (pos 0) t'))))
 
   or_follows : (a b : Expression) → Follows a → IsInt a → Follows b → IsInt b → Follows (Or a b)
   or_follows a b first first_int second second_int place stack t h =
@@ -144,10 +144,10 @@ module _ (w : World) (f : Routine) (base line n : ℕ) where
       let same : end ≡ place + length (ca ++ jumps ++ truth_code) = omega (arith, place_truth, length-append (ca ++ jumps) truth_code) in
       value_at w f base end (place + length (ca ++ jumps ++ truth_code)) same
       (runs_known (IsInRange Int) (first_int t) (first place stack t (ops_front f.body line place ca jumps operands)) (λ x t' x_int.
-          jumpz_runs other mid x stack t' (Goes (pos 1) t') (then_do (value_of w base b line t') (λ y t''. Goes (truth_value (is_true y)) t'')) (int_eq x (pos 0)) refl x_int jump.0
-          (runs_quiet w f base line (ops.Push (pos 1)) (mid + 1 + 1) (cell_of (pos 1) ∷ stack) jump.1.0 refl (runs_quiet w f base line (ops.Jump end) end (cell_of (pos 1) ∷ stack) jump.1.1.0 refl (runs_done n (Value w f base end stack) (pos 1) t')))
-          (runs_known (IsInRange Int) (second_int t') (second other stack t' right) (λ y t'' y_int.
-              truth_runs (other + length cb) y stack t'' y_int truth (runs_done n (Value w f base end stack) (truth_value (is_true y)) t'')))))
+      jumpz_runs other mid x stack t' (Goes (pos 1) t') (then_do (value_of w base b line t') (λ y t''. Goes (truth_value (is_true y)) t'')) (int_eq x (pos 0)) refl x_int jump.0
+      (runs_quiet w f base line (ops.Push (pos 1)) (mid + 1 + 1) (cell_of (pos 1) ∷ stack) jump.1.0 refl (runs_quiet w f base line (ops.Jump end) end (cell_of (pos 1) ∷ stack) jump.1.1.0 refl (runs_done n (Value w f base end stack) (pos 1) t')))
+      (runs_known (IsInRange Int) (second_int t') (second other stack t' right) (λ y t'' y_int.
+      truth_runs (other + length cb) y stack t'' y_int truth (runs_done n (Value w f base end stack) (truth_value (is_true y)) t'')))))
 
   -- every expression whose constants are ints
   pub follows : (variables : ℕ) (e : Expression) → IsWithin variables e → Follows e

@@ -72,7 +72,7 @@ module _ (w : World) (base variables line : ℕ) where
   value_in_range (Unary op e) t h = gives_then (IsInRange Int) (IsInRange Int) (value_of w base e line t) _ (value_in_range e t h) (λ v t' in_range. unary_is_int op v in_range)
   value_in_range (Binary op a b) t h =
       gives_then (IsInRange Int) (IsInRange Int) (value_of w base a line t) _ (value_in_range a t h.0) (λ x t' first.
-          gives_then (IsInRange Int) (IsInRange Int) (value_of w base b line t') _ (value_in_range b t' h.1) (λ y t'' _. given_in_range (binary_value op Int x y) line t'' (binary_is_int op x y first)))
+      gives_then (IsInRange Int) (IsInRange Int) (value_of w base b line t') _ (value_in_range b t' h.1) (λ y t'' _. given_in_range (binary_value op Int x y) line t'' (binary_is_int op x y first)))
   value_in_range (And a b) t h =
       gives_then (IsInRange Int) (IsInRange Int) (value_of w base a line t) _ (value_in_range a t h.0) (λ x t' _. either (is_true x) _ _ (truth_of b t' (value_in_range b t' h.1)) (truth_in_range false))
   value_in_range (Or a b) t h =

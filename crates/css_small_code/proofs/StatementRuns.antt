@@ -78,10 +78,10 @@ module _ (w : World) (f : Routine) (base variables n : ℕ) where
       flow_at w f base (mid + 1 + 1) (place + length (in_line line (assignment_code k e place))) same
       (runs_quiet w f base line (ops.Frame (place_of k)) (place + 1) framed h.0 refl
       (runs_known (IsInRange Int) (value_in_range w base variables line e t known) (follows w f base line n variables e known (place + 1) framed t (ops_front f.body line (place + 1) ce last h.1)) (λ v t' int.
-          let after = λ (r : ℕ). On (At base (mid + 1) (cell_of v ∷ stack)) in
-          let stores = ap (λ bytes. then_do (ask w (Store (address % 2 ^ 32) bytes) line t') (λ r t''. Goes (after r) t'')) (bytes_of-cell v) in
-          runs_then (runs_asking w f base line ops.Store32 (store w base k v line t') after behind.0 stores) (λ r t''.
-              runs_quiet w f base line ops.Drop (mid + 1 + 1) stack behind.1.0 refl (runs_done n (Flowing w f base (mid + 1 + 1) stack) Next t'')))))
+      let after = λ (r : ℕ). On (At base (mid + 1) (cell_of v ∷ stack)) in
+      let stores = ap (λ bytes. then_do (ask w (Store (address % 2 ^ 32) bytes) line t') (λ r t''. Goes (after r) t'')) (bytes_of-cell v) in
+      runs_then (runs_asking w f base line ops.Store32 (store w base k v line t') after behind.0 stores) (λ r t''.
+      runs_quiet w f base line ops.Drop (mid + 1 + 1) stack behind.1.0 refl (runs_done n (Flowing w f base (mid + 1 + 1) stack) Next t'')))))
 
   put_runs : (e : Expression) (line place : ℕ) (stack : List ℕ) (t : Tape) → IsWithin variables e → Stands f.body place (statement_code (Put line e) place) →
       Runs n (From w f base place stack t) (Flowing w f base (place + length (statement_code (Put line e) place)) stack) (meaning w base (Put line e) t)
@@ -93,10 +93,10 @@ module _ (w : World) (f : Routine) (base variables n : ℕ) where
       let same : mid + 1 + 1 ≡ place + length (in_line line (ce ++ last)) = omega (arith, length-in_line line (ce ++ last), length-append ce last) in
       flow_at w f base (mid + 1 + 1) (place + length (in_line line (ce ++ last))) same
       (runs_known (IsInRange Int) (value_in_range w base variables line e t known) (follows w f base line n variables e known place stack t (ops_front f.body line place ce last h)) (λ v t' int.
-          let after = λ (r : ℕ). On (At base (mid + 1) (r ∷ stack)) in
-          let writes = ap (λ byte. then_do (ask w (Out (byte ∷ [])) line t') (λ r t''. Goes (after r) t'')) (byte_of-cell v) in
-          runs_then (runs_asking w f base line (ops.Out conversions.Char) (ask w (Out (modulo v 256 ∷ [])) line t') after behind.0 writes) (λ r t''.
-              runs_quiet w f base line ops.Drop (mid + 1 + 1) stack behind.1.0 refl (runs_done n (Flowing w f base (mid + 1 + 1) stack) Next t''))))
+      let after = λ (r : ℕ). On (At base (mid + 1) (r ∷ stack)) in
+      let writes = ap (λ byte. then_do (ask w (Out (byte ∷ [])) line t') (λ r t''. Goes (after r) t'')) (byte_of-cell v) in
+      runs_then (runs_asking w f base line (ops.Out conversions.Char) (ask w (Out (modulo v 256 ∷ [])) line t') after behind.0 writes) (λ r t''.
+      runs_quiet w f base line ops.Drop (mid + 1 + 1) stack behind.1.0 refl (runs_done n (Flowing w f base (mid + 1 + 1) stack) Next t''))))
 
   return_runs : (e : Expression) (line place : ℕ) (stack : List ℕ) (t : Tape) → IsWithin variables e → Stands f.body place (statement_code (Return line e) place) →
       Runs n (From w f base place stack t) (Flowing w f base (place + length (statement_code (Return line e) place)) stack) (meaning w base (Return line e) t)
@@ -105,7 +105,7 @@ module _ (w : World) (f : Routine) (base variables n : ℕ) where
       let end = place + length (in_line line (ce ++ ops.Ret ∷ [])) in
       let behind = ops_back f.body line place ce (ops.Ret ∷ []) h in
       runs_known (IsInRange Int) (value_in_range w base variables line e t known) (follows w f base line n variables e known place stack t (ops_front f.body line place ce (ops.Ret ∷ []) h)) (λ v t' int.
-          runs_step (λ k. Left w f base v line t') (ret_step w f base v line (place + length ce) stack t' int behind.0) (runs_done n (Flowing w f base end stack) (Returned v line) t'))
+      runs_step (λ k. Left w f base v line t') (ret_step w f base v line (place + length ce) stack t' int behind.0) (runs_done n (Flowing w f base end stack) (Returned v line) t'))
 
   -- nothing to do
   skips : (place : ℕ) (stack : List ℕ) (t : Tape) → Runs n (From w f base place stack t) (Flowing w f base (place + 0) stack) (Goes Next t)
@@ -138,7 +138,7 @@ module _ (w : World) (f : Routine) (base variables n : ℕ) where
         let same : mid + length others ≡ place + length (first ++ others) = omega (arith, length-append first others) in
         flow_at w f base (mid + length others) (place + length (first ++ others)) same
         (runs_then (statement_runs s place stack t known.0 (stands_front f.body place first others h)) (λ flow t'.
-            goes_on rest mid (mid + length others) stack (λ t''. statements_run rest mid stack t'' known.1 (stands_back f.body place first others h)) flow t'))
+        goes_on rest mid (mid + length others) stack (λ t''. statements_run rest mid stack t'' known.1 (stands_back f.body place first others h)) flow t'))
 
   -- behind the body main is left, by a return or at its end
   pub leaves : (flow : Flow) (end place : ℕ) (stack : List ℕ) (t : Tape) → Stands f.body place (end_code end) → Runs n (λ k. Flowing w f base place stack k flow t) Finishes (left w base f.frame end flow t)

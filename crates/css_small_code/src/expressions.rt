@@ -24,11 +24,7 @@ pub fn place_of(variable: u32) -> u32
 }
 
 /// An expression's instructions. `NoMemory` also where the place of a jump doesn't fit into 32 bits.
-pub fn emit_expression(
-    code: &mut Vec<Instr>,
-    line: Line,
-    tree: &Expression,
-) -> Result<(), NoMemory>
+pub fn emit_expression(code: &mut Vec<Instr>, line: Line, tree: &Expression) -> Result<(), NoMemory>
     requires { IsWithin 1000 (expression tree.now) }
     ensures { OnOk result (code.new.items ≡ code.old.items
         ++ in_line line (expression_code (expression tree.now) (length code.old.items))) }
@@ -69,7 +65,7 @@ fn end_and(code: &mut Vec<Instr>, line: Line, test: usize) -> Result<(), NoMemor
     requires { test < length code.old.items }
     ensures { OnOk result (let no = length code.old.items + 3 in
         code.new.items ≡ slice_set code.old.items test (record { op = ops.Jumpz no; line = line })
-            ++ in_line line (truth_code ++ ops.Jump (no + 1) ∷ ops.Push (pos 0) ∷ [])) }
+        ++ in_line line (truth_code ++ ops.Jump (no + 1) ∷ ops.Push (pos 0) ∷ [])) }
 {
     let no = place_ahead(code, 3)?;
     let end = place_ahead(code, 4)?;

@@ -37,13 +37,12 @@ module _ {S : Type 0} (reply : S → Action → Reply) (learn : S → Action →
 
   -- the program is at fault
   pub along_fault : (space : S) (kind : FaultKind) (line : ℕ) (P : World → Tape → Tape → Type 0) → ((w : World) (tape : Tape) → P w tape (item (Fault kind) line ∷ tape)) → Along reply learn space space P
-  along_fault space kind line P here = λ w start tape follows at.
-      (
-        item (Fault kind) line ∷ tape,
-        follows.keeps (state_after learn start tape) (Fault kind) refl ∙ at,
-        append-nil (output tape),
-        here w tape,
-      )
+  along_fault space kind line P here = λ w start tape follows at. (
+    item (Fault kind) line ∷ tape,
+    follows.keeps (state_after learn start tape) (Fault kind) refl ∙ at,
+    append-nil (output tape),
+    here w tape,
+  )
 
   module _ (space : S) (action : Action) (line : ℕ) (of_memory : IsTrue (is_of_memory action)) where
     says : (w : World) (start : S) (tape : Tape) (r : Reply) → Follows w reply learn start → state_after learn start tape ≡ space → reply space action ≡ r → ask w action line tape ≡ replied r line (item action line ∷ tape)
@@ -59,8 +58,7 @@ module _ {S : Type 0} (reply : S → Action → Reply) (learn : S → Action →
 
     pub along_fails : reply space action ≡ Fails → Along reply learn space (learn space action) (λ w tape later. ask w action line tape ≡ Stops (Faulted OutsideMemory line) later)
     along_fails e = λ w start tape follows at.
-        let asked = item action line ∷ tape in
-        (
+        let asked = item action line ∷ tape in (
           item (Fault OutsideMemory) line ∷ asked,
           follows.keeps (state_after learn start asked) (Fault OutsideMemory) refl ∙ ap (λ s. learn s action) at,
           append-nil (output asked) ∙ quiet tape,

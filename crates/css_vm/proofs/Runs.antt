@@ -45,8 +45,7 @@ module _ {S : Type 0} (reply : S → Action → Reply) (learn : S → Action →
   ran_then {m = m} {n = n} ran more = record {
     goes = λ w start tape follows at.
         let one = ran.goes w start tape follows at in
-        let two = more.goes w start one.0 follows one.1 in
-        (
+        let two = more.goes w start one.0 follows one.1 in (
           two.0,
           two.1,
           two.2 ∙ one.2,
@@ -118,9 +117,12 @@ module _ {S : Type 0} (reply : S → Action → Reply) (learn : S → Action →
   pub reaches_refusal : (new : State) (space : S) → reply space (Enter f.frame) ≡ Ends → Reaches reply learn f Begin space (events.Stopped (stops.Rule MainStack) (first_line f.body)) new space
   reaches_refusal new space ends = record {
     does = along_map reply learn
-        (λ w tape later e. (0, λ n.
-        rw zero-add
-        (refl, (f.frame, ap (λ o. then_do (then_do o (λ base t. Goes (On (At base 0 [])) t)) (go_on (exec w f n))) e))))
+        (λ w tape later e. (
+          0,
+          λ n.
+              rw zero-add
+              (refl, (f.frame, ap (λ o. then_do (then_do o (λ base t. Goes (On (At base 0 [])) t)) (go_on (exec w f n))) e)),
+        ))
         (along_ends reply learn space (Enter f.frame) (first_line f.body) refl ends);
   }
 

@@ -125,9 +125,12 @@ module _ (f : Routine) (i : Instr) (base place : ℕ) (at : slice_get f.body pla
     pub reaches_stop : (old : List ℕ) (space space' : S) (stop : Stop) (new : State) → Halts reply learn i.op base old space stop space' → Reaches reply learn f (At base place old) space (events.Stopped stop i.line) new space'
     reaches_stop old space space' stop new halts = record {
       does = along_map reply learn
-          (λ w tape later there. (0, λ n.
-          rw (zero-add, exec_step old w n tape)
-          (stops_there stop i.line (effect w f i.line base place i.op old tape) (go_on (exec w f n)) later there)))
+          (λ w tape later there. (
+            0,
+            λ n.
+                rw (zero-add, exec_step old w n tape)
+                (stops_there stop i.line (effect w f i.line base place i.op old tape) (go_on (exec w f n)) later there),
+          ))
           (halts.stops f i.line place);
     }
 
@@ -147,7 +150,7 @@ module _ (f : Routine) (i : Instr) (base place : ℕ) (at : slice_get f.body pla
   leaves_out conversions.Char cell rest op = (
     tt,
     falls_to (cell ∷ rest) (place + 1) (cell ∷ rest)
-    (λ plan spot height fine.
-    let same : spot.height - 1 + 1 ≡ length (cell ∷ rest) = omega arith in
-    subst (Leads plan (place + 1) spot) same (rw op at fine.goes_on)),
+        (λ plan spot height fine.
+        let same : spot.height - 1 + 1 ≡ length (cell ∷ rest) = omega arith in
+        subst (Leads plan (place + 1) spot) same (rw op at fine.goes_on)),
   )

@@ -81,11 +81,7 @@ impl Activation {
 
     // One step, and the event that it makes, if it makes one.
     #[inline]
-    fn step<S: Space>(
-        &mut self,
-        code: &Function,
-        space: &mut S,
-    ) -> Result<Option<Event>, NoMemory>
+    fn step<S: Space>(&mut self, code: &Function, space: &mut S) -> Result<Option<Event>, NoMemory>
         requires { Fits (routine code.now) self.old }
         ensures { IfOk result (λ e. Steps S.reply S.learn (routine code.now) self.old space.old e self.new space.new) }
     {

@@ -4,8 +4,7 @@ use Rattle.css_vm.proofs.operations.divide.Goals as goal
 
 pub returns-then-divisor-eq0-clause-by_zero : goal.returns-then-divisor-eq0-clause-by_zero
 returns-then-divisor-eq0-clause-by_zero g c =
-    let below = first_below c.args.stack.now c.pop-divisor.result c.pop-divisor.new.self c.pop-divisor.ensures c.requires.finds in
-    (
+    let below = first_below c.args.stack.now c.pop-divisor.result c.pop-divisor.new.self c.pop-divisor.ensures c.requires.finds in (
       refl,
       (
         below.0,

@@ -20,14 +20,14 @@ returns-clause-event g c =
     let reply = g.S.Space.reply in
     let learn = g.S.Space.learn in
     elim c.if-not-self.branch [
-      then-not-self+in-Ok w ↦
-        let entered : Ran reply learn f Begin c.args.space.now 1 w.begin.new.self w.push_frame.new.self = rw w.begin.ensures (ran_enter reply learn f w.in-Ok.base c.args.space.now w.push_frame.new.self w.in-Ok.ensures.says w.in-Ok.ensures.learns) in
-        let event = rw (w.self-inside-is, w.space-is) at c.run.ensures.event in
-        rw (w.self-inside-is, ← c.self.view_is, w.if-not-self.true)
-        (IfOk-weaker c.run.result _ _ (λ e. ran_reaches reply learn f e c.run.new.self c.run.new.space entered) event)
-    | else-not-self w ↦
-        let event = rw (w.self-inside-is, w.space-is) at c.run.ensures.event in
-        rw (w.self-inside-is, ← c.self.view_is, w.if-not-self.false) event
+      | then-not-self+in-Ok w ↦
+          let entered : Ran reply learn f Begin c.args.space.now 1 w.begin.new.self w.push_frame.new.self = rw w.begin.ensures (ran_enter reply learn f w.in-Ok.base c.args.space.now w.push_frame.new.self w.in-Ok.ensures.says w.in-Ok.ensures.learns) in
+          let event = rw (w.self-inside-is, w.space-is) at c.run.ensures.event in
+          rw (w.self-inside-is, ← c.self.view_is, w.if-not-self.true)
+          (IfOk-weaker c.run.result _ _ (λ e. ran_reaches reply learn f e c.run.new.self c.run.new.space entered) event)
+      | else-not-self w ↦
+          let event = rw (w.self-inside-is, w.space-is) at c.run.ensures.event in
+          rw (w.self-inside-is, ← c.self.view_is, w.if-not-self.false) event
     ]
 
 pub returns-clause-leaves : goal.returns-clause-leaves
@@ -36,12 +36,12 @@ returns-clause-leaves g c =
     let reply = g.S.Space.reply in
     let learn = g.S.Space.learn in
     elim c.if-not-self.branch [
-      then-not-self+in-Ok w ↦
-        let entered : Ran reply learn f Begin c.args.space.now 1 w.begin.new.self w.push_frame.new.self = rw w.begin.ensures (ran_enter reply learn f w.in-Ok.base c.args.space.now w.push_frame.new.self w.in-Ok.ensures.says w.in-Ok.ensures.learns) in
-        let leaves = rw (w.self-inside-is) at c.run.ensures.leaves in
-        rw (w.self-inside-is, ← c.self.view_is, w.if-not-self.true)
-        (IfOk-weaker c.run.result _ _ (λ e. ran_leaves reply learn f e c.run.new.self entered) leaves)
-    | else-not-self w ↦
-        let leaves = rw (w.self-inside-is) at c.run.ensures.leaves in
-        rw (w.self-inside-is, ← c.self.view_is, w.if-not-self.false) leaves
+      | then-not-self+in-Ok w ↦
+          let entered : Ran reply learn f Begin c.args.space.now 1 w.begin.new.self w.push_frame.new.self = rw w.begin.ensures (ran_enter reply learn f w.in-Ok.base c.args.space.now w.push_frame.new.self w.in-Ok.ensures.says w.in-Ok.ensures.learns) in
+          let leaves = rw (w.self-inside-is) at c.run.ensures.leaves in
+          rw (w.self-inside-is, ← c.self.view_is, w.if-not-self.true)
+          (IfOk-weaker c.run.result _ _ (λ e. ran_leaves reply learn f e c.run.new.self entered) leaves)
+      | else-not-self w ↦
+          let leaves = rw (w.self-inside-is) at c.run.ensures.leaves in
+          rw (w.self-inside-is, ← c.self.view_is, w.if-not-self.false) leaves
     ]

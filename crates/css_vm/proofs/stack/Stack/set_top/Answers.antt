@@ -7,8 +7,7 @@ returns c =
     let cells = c.self.inside.cells.items in
     let last = c.len-last.result - 1 in
     let seen = length_seen cells c.args.self.now c.len-last.result c.self.view_is (omega (arith, c.self.inside.cells.ok.0)) in
-    let full : length cells ≡ last + 1 = omega (arith, c.self.inside.cells.ok.0) in
-    (
+    let full : length cells ≡ last + 1 = omega (arith, c.self.inside.cells.ok.0) in (
       get_or cells last 0,
       reverse (take last cells),
       sym c.self.view_is ∙ top_first cells last full,

@@ -9,8 +9,7 @@ returns c =
     let last : ℕ = c.len-last.result - 1 - 1 in
     let seen = length_seen cells c.args.self.now c.len-last.result c.self.view_is (omega (arith, c.self.inside.cells.ok.0)) in
     let full : length cells ≡ last + 2 = omega (arith, c.self.inside.cells.ok.0) in
-    let above : c.len-last.result - 1 ≡ last + 1 = omega arith in
-    (
+    let above : c.len-last.result - 1 ≡ last + 1 = omega arith in (
       get_or cells last 0,
       get_or cells (last + 1) 0,
       reverse (take last cells),

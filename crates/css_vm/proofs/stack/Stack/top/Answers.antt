@@ -9,8 +9,7 @@ returns c =
     let last = c.len.result - 1 in
     let seen = length_seen cells c.args.self.now c.len.result c.self.view_is (omega (arith, c.self.inside.cells.ok.0)) in
     let full : length cells ≡ last + 1 = omega (arith, c.self.inside.cells.ok.0) in
-    let below : last < length cells = omega arith in
-    (
+    let below : last < length cells = omega arith in (
       reverse (take last cells),
       sym c.self.view_is ∙ top_first cells last full ∙ ap (λ cell. cell ∷ reverse (take last cells)) (sym (get_or_read cells last c.index.result.now below c.index.ensures 0)),
     )
