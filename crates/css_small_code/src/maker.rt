@@ -38,3 +38,6 @@ fn body_of(alloc: Global, tree: &Program) -> Result<Vec<Instr>, NoMemory>
     emit_all(&mut body, tree.end, &[Op::Push(0), Op::Ret])?;
     Ok(body)
 }
+
+#[cfg(test)]
+mod tests;

@@ -1,11 +1,10 @@
 -- What the ways in which a call ends say of its status.
-use Rattle.std.proofs.Common.{◌≡◌, ℕ, ◌<◌, ◌≤◌, ◌⊎◌, inl, inr, List, Option, Some, refl, sym, ap, ◌∙◌, subst, arith}
+use Rattle.std.proofs.Common.{◌≡◌, ℕ, ◌<◌, ◌≤◌, ◌⊎◌, inl, inr, List, Option, Some, sym, ap, ◌∙◌, subst, arith}
 use Rattle.std.specs.Prelude.{IfSome}
-use Rattle.css_io.specs.Outside.{Rose}
 use Rattle.css_small.specs.Grammar.{IsNotBuilt}
 use Rattle.cssrun.specs.Request.{Asks, AreRefused}
-use Rattle.cssrun.specs.Answer.{Answer, IsRunAnswer, IsTextAnswer, Refused, Ended, IsAnswer, WordsRefused, Asked, words_refused, read_fault}
-use Rattle.cssrun.specs.Ends.{Change, HasFailed, Got, GotPrefix, Ends, Whole, Cut, Starved, Finishes, Written, CutLine, IsText, ShelfFailed, PlainEnds, Answered, Unread, IsWhole, IsCutShort, IsStarved, IsSmooth}
+use Rattle.cssrun.specs.Answer.{Answer, IsTextAnswer, Refused, Ended, IsAnswer, WordsRefused, Asked, words_refused, read_fault}
+use Rattle.cssrun.specs.Ends.{Change, HasFailed, Got, GotPrefix, Whole, Cut, Starved, Finishes, Written, CutLine, IsText, ShelfFailed, PlainEnds, Answered, Unread, IsWhole, IsCutShort, IsStarved, IsSmooth}
 use Rattle.cssrun.proofs.OneAnswer.{answer_status, text_answer_status, is_built}
 use Rattle.cssrun.proofs.Runs.{IsRunStatus, run_answer_status}
 

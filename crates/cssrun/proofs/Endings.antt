@@ -1,7 +1,6 @@
 -- Each way in which a call of the program ends.
-use Rattle.std.proofs.Common.{◌≡◌, ℕ, ◌⊎◌, inl, inr, List, [], ◌++◌, Option, refl, sym, ap, ◌∙◌, subst}
+use Rattle.std.proofs.Common.{◌≡◌, ℕ, inl, inr, List, [], refl, sym, subst}
 use Rattle.std.proofs.lemmas.List.{append-nil}
-use Rattle.css_io.specs.Outside.{Appends, AppendsPrefix}
 use Rattle.cssrun.specs.Answer.{Answer, no_memory}
 use Rattle.cssrun.specs.Ends.{Change, HasFailed, Got, GotPrefix, GotPrefixAnd, GotPrefixAndPrefix, Ends, Whole, Cut, Starved, Finishes, Written, CutLine}
 use Rattle.cssrun.proofs.Sinks.{AppendsPrefix-whole}

@@ -1,16 +1,15 @@
 -- Runs of the machine: once a run has ended more steps change nothing, and a tape only grows.
-use Rattle.std.proofs.Common.{◌≡◌, ℕ, zero, suc, ◌+◌, ◌%◌, ◌^◌, List, [], ◌∷◌, ◌++◌, Bool, true, false, if◌then◌else◌, refl, sym, ap, ◌∙◌, subst, append_assoc, add-zero, add-suc}
+use Rattle.std.proofs.Common.{◌≡◌, ℕ, zero, suc, ◌+◌, ◌%◌, ◌^◌, List, [], ◌∷◌, ◌++◌, Bool, true, false, if◌then◌else◌, refl, sym, ap, ◌∙◌, append_assoc, add-zero, add-suc}
 use Rattle.std.specs.Prelude.{Option, Some, None, slice_get, nat_eq}
 use Rattle.std.proofs.lemmas.List.{append-nil}
-use Rattle.css_base.specs.declared.ending.FaultKind.TheVariants.{DivideByZero}
-use Rattle.css_semantics.specs.Dialogue.{Action, Enter, Leave, Load, Store, Out, End, Item, Tape, Reply, Says, Fails, Ends, World, Outcome, Goes, Stops, Tired, then_do, replied, ask, fault, item, output, written_by}
+use Rattle.css_semantics.specs.Dialogue.{Action, Enter, Leave, Load, Store, Out, End, Item, Tape, Reply, Says, Fails, Ends, World, Outcome, Goes, Stops, Tired, then_do, replied, ask, item, output, written_by}
 use Rattle.css_semantics.specs.Memory.{big_endian_bytes}
 use Rattle.css_vm.specs.declared.code.Instr.{Instr}
 use Rattle.css_vm.specs.declared.code.Op.{Op}
 use Rattle.css_vm.specs.declared.code.Op.TheVariants as ops
 use Rattle.css_vm.specs.declared.code.Conversion.TheVariants as conversions
 use Rattle.css_vm.specs.Code.{Routine, first_line}
-use Rattle.css_vm.specs.Machine.{State, Begin, At, Halt, After, Ended, On, on_one, on_two, on_cell, leaving, ended, next, one, two, division, effect, at_instr, step, go_on, exec}
+use Rattle.css_vm.specs.Machine.{State, Begin, At, Halt, After, Ended, On, on_one, on_two, on_cell, leaving, next, one, two, division, effect, at_instr, step, go_on, exec}
 use Rattle.cssrun.specs.Answer.{tape_of}
 
 -- an outcome that isn't for want of fuel

@@ -1,10 +1,9 @@
 -- The flat world ends a dialogue only at an entry.
-use Rattle.std.proofs.Common.{◌≡◌, ℕ, ℤ, List, [], ◌∷◌, length, Bool, true, false, if◌then◌else◌, Option, Some, None, refl}
-use Rattle.std.specs.Prelude.{IsTrue, nat_le}
-use Rattle.css_semantics.specs.Dialogue.{Action, Enter, Leave, Load, Store, Out, Fault, End, Item, Tape, Reply, Says, Fails, Ends, Outcome, Goes, Stops, Over, Faulted, Tired, World, then_do, replied, ask}
-use Rattle.css_semantics.specs.Worlds.{Follows, state_after, is_of_memory}
-use Rattle.css_semantics.specs.Memory.{Memory, is_live, big_endian, bytes_at, after}
-use Rattle.css_semantics.specs.Flat.{flat, reply_in}
+use Rattle.std.proofs.Common.{ℕ, List, length, Bool, true, false, if◌then◌else◌}
+use Rattle.css_semantics.specs.Dialogue.{Load, Store, Tape, Says, Fails, Outcome, Goes, Stops, Over, Faulted, Tired, then_do, replied, ask}
+use Rattle.css_semantics.specs.Worlds.{state_after}
+use Rattle.css_semantics.specs.Memory.{is_live, big_endian, bytes_at, after}
+use Rattle.css_semantics.specs.Flat.{flat}
 use Rattle.cssrun.specs.Running.{no_frames}
 
 -- An outcome with a value or a fault.

@@ -1,9 +1,9 @@
 -- Words and a text have one answer.
-use Rattle.std.proofs.Common.{◌≡◌, ℕ, ◌+◌, ◌<◌, ◌≤◌, ◌⊎◌, inl, inr, List, [], ◌∷◌, length, Option, Some, None, refl, sym, ap, ◌∙◌, subst, arith}
+use Rattle.std.proofs.Common.{◌≡◌, ℕ, ◌≤◌, ◌⊎◌, inl, inr, List, [], ◌∷◌, length, sym, ap, ◌∙◌, subst, arith}
 use Rattle.css_base.specs.declared.static_fault.StaticName.TheVariants as names
 use Rattle.css_small.specs.Tree.{Program}
 use Rattle.css_small.specs.Grammar.{Spells, IsNotBuilt}
-use Rattle.cssrun.specs.Request.{Asks, AreRefused}
+use Rattle.cssrun.specs.Request.{Asks}
 use Rattle.cssrun.specs.Answer.{Answer, IsRunAnswer, IsTextAnswer, Refused, Ended, IsAnswer, WordsRefused, Asked, static_line, memory}
 use Rattle.cssrun.proofs.Programs.{source_ends}
 use Rattle.cssrun.proofs.Runs.{run_answer_is, IsRunStatus, run_answer_status}

@@ -1,18 +1,18 @@
 -- Programs of the small language have an ending in the flat memory.
-use Rattle.std.proofs.Common.{◌≡◌, ℕ, ℤ, pos, ◌+◌, ◌-◌, ◌≤◌, List, [], ◌∷◌, length, Bool, true, false, if◌then◌else◌, Option, Some, None, refl, ap}
+use Rattle.std.proofs.Common.{◌≡◌, ℕ, ℤ, ◌+◌, ◌≤◌, List, [], ◌∷◌, length, Bool, true, false, if◌then◌else◌, Option, Some, None, refl}
 use Rattle.std.specs.Prelude.{nat_le}
 use Rattle.css_base.specs.declared.int_type.IntType.TheVariants.{Int}
 use Rattle.css_base.specs.declared.ending.Ending.{Ending}
-use Rattle.css_num.specs.Conversion.{modulo, representation, converted}
-use Rattle.css_num.specs.Operators.{truth_value, unary_value, binary_value}
-use Rattle.css_semantics.specs.Dialogue.{Tape, Item, Enter, Leave, Load, Store, Out, End, Reply, Says, Ends, Outcome, Goes, Stops, Over, Faulted, Tired, then_do, replied, ask, item, output}
+use Rattle.css_num.specs.Conversion.{representation}
+use Rattle.css_num.specs.Operators.{binary_value}
+use Rattle.css_semantics.specs.Dialogue.{Tape, Enter, Load, Says, Ends, Outcome, Goes, Stops, Over, Faulted, Tired, then_do, replied, ask, item, output}
 use Rattle.css_semantics.specs.Memory.{big_endian_bytes}
 use Rattle.css_semantics.specs.Flat.{flat, stack_limit}
 use Rattle.css_small.specs.Tree as tree
 use Rattle.css_small.specs.Tree.{Expression, Number, Variable, Unary, Binary, And, Or, Statement, Declare, Initialise, Empty, Assign, Put, Return, Block, Statements, More, Program}
 use Rattle.css_small.specs.Grammar.{Spells}
-use Rattle.css_small_code.specs.Meaning.{source, frame_of, address_of, given, is_true, value_of, Flow, Next, Returned, on_next, assigned, meaning, meanings, leave, left, store}
-use Rattle.cssrun.specs.Answer.{Answer, Runs, IsRunAnswer, IsTextAnswer, Ended, ending_of, ending_line, ending_status, memory, tape_of}
+use Rattle.css_small_code.specs.Meaning.{source, frame_of, address_of, given, is_true, value_of, Flow, Next, Returned, on_next, assigned, meaning, meanings, left, store}
+use Rattle.cssrun.specs.Answer.{Answer, Runs, IsTextAnswer, Ended, ending_of, ending_line, ending_status, memory, tape_of}
 use Rattle.cssrun.proofs.Flat.{IsPlain, then_plain, load_plain, store_plain}
 
 given_plain : (v : Option ℤ) (line : ℕ) (tape : Tape) → IsPlain (given v line tape)

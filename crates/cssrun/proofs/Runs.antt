@@ -1,16 +1,16 @@
 -- The one answer of a program's run, and how the run of its code gives it.
-use Rattle.std.proofs.Common.{◌≡◌, ℕ, zero, suc, ℤ, pos, negsuc, ◌+◌, ◌≤◌, ◌⊎◌, inl, inr, List, [], ◌∷◌, Option, Some, None, refl, sym, ap, ◌∙◌, subst, arith}
+use Rattle.std.proofs.Common.{◌≡◌, ℕ, zero, suc, ℤ, pos, negsuc, ◌≤◌, ◌⊎◌, inl, inr, List, Some, refl, sym, ap, ◌∙◌, subst, arith}
 use Rattle.css_base.specs.declared.ending.Ending.{Ending}
 use Rattle.css_base.specs.declared.ending.Ending.TheVariants as endings
 use Rattle.css_base.specs.declared.ending.Stop.TheVariants as stops
-use Rattle.css_semantics.specs.Dialogue.{Tape, World, Outcome, Goes, Stops, Over, Faulted, Tired, output}
+use Rattle.css_semantics.specs.Dialogue.{World, Outcome, Goes, Stops, Over, Faulted, Tired, output}
 use Rattle.css_semantics.specs.Flat.{flat}
 use Rattle.css_vm.specs.Code.{Routine}
 use Rattle.css_vm.specs.Machine.{target}
 use Rattle.css_small.specs.Tree.{Program}
 use Rattle.css_small_code.specs.Meaning.{source}
 use Rattle.css_small_code.specs.Correct.{Codes}
-use Rattle.cssrun.specs.Answer.{Answer, Runs, IsRunAnswer, ending_of, ending_line, ending_status, tape_of, no_memory, memory}
+use Rattle.cssrun.specs.Answer.{Answer, IsRunAnswer, ending_of, ending_line, ending_status, tape_of, no_memory, memory}
 use Rattle.cssrun.specs.Ends.{Change, Got, GotPrefix}
 use Rattle.cssrun.specs.Ends as ways
 use Rattle.cssrun.specs.Running.{halted, ComesTo}

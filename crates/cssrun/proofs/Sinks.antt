@@ -1,13 +1,13 @@
 -- What a sink got in several calls.
-use Rattle.std.proofs.Common.{◌≡◌, ℕ, ◌≤◌, List, [], ◌∷◌, ◌++◌, Option, Some, None, refl, sym, ap, ◌∙◌, append_assoc}
+use Rattle.std.proofs.Common.{ℕ, ◌≤◌, List, [], ◌++◌, Option, Some, None, refl, sym, ap, ◌∙◌, append_assoc}
 use Rattle.std.proofs.lemmas.List.{append-nil}
-use Rattle.css_io.specs.Outside.{Appends, AppendsPrefix, Rose}
+use Rattle.css_io.specs.Outside.{Appends, AppendsPrefix}
 use Rattle.css_io.proofs.Told.{Appends-more}
 use Rattle.css_io.proofs.Faults.{Rose-after}
 use Rattle.css_base.specs.declared.ending.Ending.{Ending}
 use Rattle.cssrun.specs.declared.run.Ran.{Ran}
 use Rattle.cssrun.specs.declared.run.Ran.TheVariants as rans
-use Rattle.cssrun.specs.Ends.{Change, change, HasFailed, Got, GotPrefix}
+use Rattle.cssrun.specs.Ends.{change, Got}
 use Rattle.cssrun.specs.Ran.{RanAs}
 
 -- an object that is as it was got nothing

@@ -1,5 +1,5 @@
 -- The answers of a text of which no more than the first 4,194,305 bytes need be there.
-use Rattle.std.proofs.Common.{◌≡◌, ℕ, ◌+◌, ◌<◌, ◌≤◌, ◌⊎◌, inl, inr, List, [], length, take, Option, Some, None, refl, sym, ap, ◌∙◌, subst, arith}
+use Rattle.std.proofs.Common.{◌≡◌, ℕ, ◌<◌, ◌≤◌, ◌⊎◌, inl, inr, List, [], length, take, Option, Some, None, refl, sym, subst, arith}
 use Rattle.std.specs.Prelude.{IfSome}
 use Rattle.std.proofs.lemmas.Bool.{cases_lt}
 use Rattle.std.proofs.lemmas.List.{take_all, length-take-le}
@@ -8,8 +8,7 @@ use Rattle.css_base.specs.declared.static_fault.StaticName.TheVariants as names
 use Rattle.css_small.specs.Grammar.{IsNotBuilt}
 use Rattle.cssrun.specs.Request.{Asks, AreRefused}
 use Rattle.cssrun.specs.Answer.{Answer, IsTextAnswer, Refused, Ended, IsAnswer, WordsRefused, Asked, static_line, words_refused, no_memory}
-use Rattle.cssrun.specs.Ends.{Change, Got, GotPrefix, Ends, Finishes, IsText, PlainEnds, Answered, Unread}
-use Rattle.cssrun.proofs.Sinks.{AppendsPrefix-nothing}
+use Rattle.cssrun.specs.Ends.{Change, Got, GotPrefix, Ends, Finishes, IsText, PlainEnds, Answered}
 use Rattle.cssrun.proofs.Endings.{Ends-map, ends_answer, ends_no_memory}
 use Rattle.cssrun.proofs.OneAnswer.{one_file, not_built, not_built_is}
 

@@ -1,24 +1,21 @@
 -- Main's run in the flat memory, from event to event.
-use Rattle.std.proofs.Common.{◌≡◌, ℕ, zero, suc, ℤ, ◌+◌, ◌-◌, ◌≤◌, List, [], ◌∷◌, ◌++◌, length, Option, Some, None, refl, sym, ap, ◌∙◌, subst, append_assoc, arith}
+use Rattle.std.proofs.Common.{◌≡◌, ℕ, suc, ℤ, ◌+◌, ◌≤◌, List, [], ◌∷◌, ◌++◌, length, Some, refl, sym, ap, ◌∙◌, subst, append_assoc, arith}
 use Rattle.std.proofs.lemmas.List.{append-nil}
 use Rattle.css_base.specs.declared.ending.Ending.{Ending}
 use Rattle.css_base.specs.declared.ending.Ending.TheVariants as endings
 use Rattle.css_base.specs.declared.ending.Stop.{Stop}
 use Rattle.css_base.specs.declared.ending.Stop.TheVariants as stops
 use Rattle.css_base.specs.declared.ending.Who.TheVariants.{Main}
-use Rattle.css_base.specs.declared.rule.Rule.TheVariants.{MainStack}
-use Rattle.css_semantics.specs.Dialogue.{Action, Enter, Leave, Out, End, Tape, Outcome, Goes, Stops, Over, Faulted, Tired, World, item, output}
-use Rattle.css_semantics.specs.Worlds.{state_after}
+use Rattle.css_semantics.specs.Dialogue.{Enter, Leave, Out, End, Tape, Outcome, Goes, Stops, Over, Faulted, Tired, item, output}
 use Rattle.css_semantics.specs.Memory.{Memory, after}
 use Rattle.css_semantics.specs.Flat.{flat, reply_in}
 use Rattle.css_semantics.proofs.FlatWorld.{flat-follows}
-use Rattle.css_vm.specs.declared.machine.Event.{Event}
 use Rattle.css_vm.specs.declared.machine.Event.TheVariants as events
 use Rattle.css_vm.specs.Code.{Routine}
 use Rattle.css_vm.specs.Cells.{int_of}
-use Rattle.css_vm.specs.Machine.{State, Begin, At, Halt, Finished, exec, target, leaving, answered}
-use Rattle.css_vm.specs.Soundness.{Spot, IsSound, IsAt}
-use Rattle.css_vm.specs.Events.{Reaches, Leaves, Falls, Does, IsStop, base_of}
+use Rattle.css_vm.specs.Machine.{State, Begin, At, exec, answered}
+use Rattle.css_vm.specs.Soundness.{Spot, IsAt}
+use Rattle.css_vm.specs.Events.{Reaches, Leaves, Falls, IsStop, base_of}
 use Rattle.cssrun.specs.Answer.{ending_of, tape_of}
 use Rattle.cssrun.specs.Ends.{Change}
 use Rattle.cssrun.specs.Pending.{Passes}

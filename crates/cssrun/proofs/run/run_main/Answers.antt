@@ -1,4 +1,4 @@
-use Rattle.std.proofs.Common.{◌≡◌, ◌++◌, ◌-◌, ◌+◌, ◌≤◌, [], ap, sym, subst, refl, length, add-zero, arith}
+use Rattle.std.proofs.Common.{◌++◌, ◌+◌, [], refl, length, arith}
 use Rattle.css_io.proofs.Told.{Appends-more}
 use Rattle.css_vm.specs.Code.{routine}
 use Rattle.cssrun.proofs.Sinks.{Appends-nothing, RanAs-more}

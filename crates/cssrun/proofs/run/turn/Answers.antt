@@ -1,5 +1,4 @@
-use Rattle.std.proofs.Common.{◌≡◌, ◌++◌, ◌∙◌, ap, length, append_assoc}
-use Rattle.css_vm.specs.Machine.{answered}
+use Rattle.std.proofs.Common.{◌++◌, ◌∙◌, append_assoc}
 use Rattle.cssrun.proofs.Sinks.{AppendsPrefix-nothing, AppendsPrefix-front}
 use Rattle.cssrun.proofs.Turns.{output-running, running_ended, running_stopped, turn_out}
 use Rattle.cssrun.proofs.run.turn.Goals as goal

@@ -1,6 +1,4 @@
-use Rattle.std.proofs.Common.{sym, subst}
 use Rattle.cssrun.specs.Answer.{IsTextAnswer}
-use Rattle.cssrun.specs.Ends.{Ends}
 use Rattle.cssrun.proofs.Endings.{ends_no_memory}
 use Rattle.cssrun.proofs.Sinks.{AppendsPrefix-nothing}
 use Rattle.cssrun.proofs.Texts.{answered, answered_any}

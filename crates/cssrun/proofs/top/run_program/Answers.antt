@@ -1,4 +1,3 @@
-use Rattle.std.proofs.Common.{◌≡◌, sym, ap}
 use Rattle.css_vm.specs.Code.{routine}
 use Rattle.css_small.specs.Tree.{program}
 use Rattle.cssrun.specs.Answer.{IsRunAnswer}
