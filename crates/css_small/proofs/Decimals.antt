@@ -1,7 +1,7 @@
 -- Decimal constants.
-use Rattle.std.proofs.Common.{◌≡◌, ℕ, ◌+◌, ◌-◌, ◌*◌, ◌<◌, ◌≤◌, List, [], ◌∷◌, ◌++◌, length, take, drop, slice_index, get_or, fold, refl, sym, ap, ◌∙◌, subst, arith, take-append-drop, le_trans}
+use Rattle.std.proofs.Common.{◌≡◌, ℕ, ◌+◌, ◌-◌, ◌*◌, ◌<◌, ◌≤◌, List, [], ◌∷◌, length, take, drop, slice_index, fold, ap, arith, take-append-drop, le_trans}
 use Rattle.std.proofs.lemmas.List.Sums.{fold-append, fold_more}
-use Rattle.css_small.specs.Spelling.{IsDigit, IsDecimal, decimal_value}
+use Rattle.css_small.specs.Spelling.{IsDecimal, decimal_value}
 
 -- Further digits make no value smaller.
 grows : (value : ℕ) (bytes : List ℕ) → value ≤ fold (λ v b. 10 * v + (b - 48)) value bytes

@@ -1,10 +1,10 @@
 -- The longest fronts of a text, by what stands at each place.
-use Rattle.std.proofs.Common.{◌≡◌, ◌⊎◌, ℕ, zero, suc, ◌+◌, ◌-◌, ◌<◌, ◌≤◌, min, Bool, true, ◌&&◌, leb, List, [], ◌∷◌, ◌++◌, length, take, drop, slice_index, get_or, All, Contains, refl, sym, ap, subst, inl, inr, ◌∙◌, arith, get_or-take, zero-lt-suc, append_assoc}
-use Rattle.std.proofs.lemmas.Bool.{cases_lt, leb-true, and_parts}
+use Rattle.std.proofs.Common.{◌≡◌, ◌⊎◌, ℕ, zero, suc, ◌+◌, ◌-◌, ◌<◌, ◌≤◌, min, ◌&&◌, leb, List, [], ◌∷◌, ◌++◌, length, take, drop, slice_index, get_or, All, Contains, refl, sym, ap, subst, inl, inr, ◌∙◌, arith, get_or-take, zero-lt-suc, append_assoc}
+use Rattle.std.proofs.lemmas.Bool.{leb-true, and_parts}
 use Rattle.std.proofs.lemmas.List.{length-take, length-take-le, take_min, length-append, take-append-drop, take_at}
-use Rattle.std.proofs.lemmas.List.Elements.{All-from_get_or, All-get_or}
-use Rattle.css_small.specs.Spelling.{IsBlank, IsDigit, IsNondigit, IsWord, IsNumber, IsNumberTail, IsLexeme, IsLongest, punctuators}
-use Rattle.css_small.specs.Lexing.{IsLongestFront, GoesOn, BeginsNumber, BeginsAs}
+use Rattle.std.proofs.lemmas.List.Elements.{All-from_get_or}
+use Rattle.css_small.specs.Spelling.{IsBlank, IsDigit, IsNondigit, IsWord, IsNumber, IsNumberTail, IsLexeme, IsLongest, punctuators, GoesOn}
+use Rattle.css_small.specs.Lexing.{IsLongestFront, BeginsNumber, BeginsAs}
 use Rattle.css_small.specs.declared.lexer.scan.Class.TheVariants as classes
 use Rattle.css_small.proofs.Tables.{passes}
 use Rattle.css_small.proofs.Openings.{apart, word_begins, number_begins, punctuator_begins, front_nondigit, front_number}

@@ -1,10 +1,10 @@
 -- Lexemes are told apart by their first bytes.
-use Rattle.std.proofs.Common.{◌≡◌, ◌⊎◌, ℕ, ◌+◌, ◌<◌, ◌≤◌, min, Bool, true, false, not, ◌&&◌, ◌||◌, leb, eqb, List, [], ◌∷◌, ◌++◌, length, take, slice_index, get_or, All, Contains, true≢false, refl, sym, ap, subst, inl, inr, arith, get_or-take, zero-lt-suc}
+use Rattle.std.proofs.Common.{◌≡◌, ◌⊎◌, ℕ, ◌<◌, ◌≤◌, Bool, true, false, not, ◌&&◌, ◌||◌, leb, eqb, List, [], ◌∷◌, ◌++◌, length, take, slice_index, get_or, Contains, true≢false, refl, sym, ap, subst, inl, inr, arith, get_or-take, zero-lt-suc}
 use Rattle.std.proofs.lemmas.Bool.{cases_lt}
 use Rattle.std.proofs.lemmas.Bool.Decides.{nat_tests}
 use Rattle.std.proofs.lemmas.List.{get_or_past, length-take}
 use Rattle.css_small.specs.declared.lexer.scan.Class.TheVariants as classes
-use Rattle.css_small.specs.Spelling.{IsBlank, IsDigit, IsNondigit, IsWord, IsNumber, IsNumberTail, IsLexeme, punctuators}
+use Rattle.css_small.specs.Spelling.{IsBlank, IsDigit, IsNondigit, IsWord, IsNumber, IsLexeme, punctuators}
 use Rattle.css_small.specs.Lexing.{BeginsNumber, BeginsAs}
 use Rattle.css_small.proofs.Tables.{passes}
 

@@ -1,5 +1,5 @@
 -- The table of punctuators, by tests that compute over it.
-use Rattle.std.proofs.Common.{◌≡◌, ◌↔◌, ℕ, ◌+◌, ◌<◌, ◌≤◌, Bool, true, not, ◌&&◌, ◌||◌, List, [], ◌∷◌, map, length, get_or, eqb, nat_eq, Contains, IsTrue, bytes_eq, Decides, refl, ap, ap₂, sym, inl, inr, ◌∙◌, eq-eqb, arith, false}
+use Rattle.std.proofs.Common.{◌≡◌, ◌↔◌, ℕ, Bool, true, not, ◌&&◌, ◌||◌, List, [], ◌∷◌, map, length, get_or, eqb, nat_eq, Contains, IsTrue, bytes_eq, Decides, refl, ap, ap₂, sym, inl, inr, ◌∙◌, eq-eqb, arith, false}
 use Rattle.std.specs.List.{list_any, list_all}
 use Rattle.std.proofs.lemmas.Bool.{or_cases, both_ways, not-true}
 use Rattle.std.proofs.lemmas.Bool.Decides.{Decides-by_or}

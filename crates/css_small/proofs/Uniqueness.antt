@@ -1,9 +1,9 @@
 -- A text has at most one next token, and spells at most one list of tokens.
-use Rattle.std.proofs.Common.{◌≡◌, ◌⊎◌, ℕ, ◌+◌, List, [], ◌∷◌, ◌++◌, length, All, Contains, refl, sym, ap, ◌∙◌, subst, inl, inr, append-nil}
+use Rattle.std.proofs.Common.{◌≡◌, ◌⊎◌, ℕ, List, [], ◌∷◌, ◌++◌, All, Contains, refl, sym, ap, ◌∙◌, subst, inl, inr, append-nil}
 use Rattle.std.proofs.lemmas.List.Elements.{All-head, All-tail}
 use Rattle.css_base.specs.declared.int_type.IntType.TheVariants as types
-use Rattle.css_base.specs.Tokens.{Kind, Word, Number, Punctuator, Lexeme, At}
-use Rattle.css_small.specs.Spelling.{IsBlank, IsWord, IsNumber, IsDecimal, IsLexeme, IsLongest, HasKind, IsNext, SpellsFrom, SpellsTokens, punctuators, newlines, line_of, end_of}
+use Rattle.css_base.specs.Tokens.{Kind, Word, Number, Punctuator, Lexeme}
+use Rattle.css_small.specs.Spelling.{IsBlank, IsWord, IsNumber, IsDecimal, IsLexeme, IsLongest, HasKind, IsNext, SpellsFrom, punctuators, line_of, end_of}
 use Rattle.css_small.proofs.Cuts.{two_cuts}
 use Rattle.css_small.proofs.Openings.{IsSolid, lexeme_solid, solid_more, word_no_number, word_no_punctuator, number_no_punctuator}
 

@@ -1,5 +1,5 @@
 -- What the lexer's parts find at the front of a text.
-use Rattle.std.specs.Prelude.{◌≡◌, ℕ, ◌<◌, ◌≤◌, ◌⊎◌, List, length, take, drop, slice_index, Contains, codes}
+use Rattle.std.specs.Prelude.{◌≡◌, ℕ, ◌<◌, ◌≤◌, ◌⊎◌, List, length, take, drop, slice_index}
 use Rattle.css_base.specs.Tokens.{lexeme}
 use Rattle.css_base.specs.declared.token.Token.{Token}
 use Rattle.css_small.specs.declared.lexer.scan.Class.{Class}
@@ -11,10 +11,6 @@ pub record IsLongestFront (IsOfClass : List ℕ → Type 0) (text : List ℕ) (c
   pub within : count ≤ length text
   pub front : IsOfClass (take count text)
   pub longest : (more : ℕ) → count < more → more ≤ length text → IsOfClass (take more text) → ⊥
-
--- A byte that may stand behind another one in a preprocessing number (C99 6.4.8).
-abbrev pub GoesOn : ℕ → ℕ → Type 0
-GoesOn before b = IsNondigit b ⊎ (IsDigit b ⊎ ((b ≡ 46) ⊎ (((b ≡ 43) ⊎ (b ≡ 45)) × Contains (codes "eEpP") before)))
 
 -- The text begins with a digit, or with a period and a digit.
 abbrev pub BeginsNumber : List ℕ → Type 0

@@ -1,8 +1,7 @@
--- Which text spells which tokens, and which tokens spell which tree.
-use Rattle.std.specs.Prelude.{◌≡◌, ◌≢◌, ℕ, ◌+◌, ◌*◌, ◌-◌, ◌<◌, ◌≤◌, ◌⊎◌, List, [], ◌∷◌, ◌++◌, length, All, Any, Contains, codes, fold, count_by, nat_eq, ◌==◌}
+-- Which text spells which tokens.
+use Rattle.std.specs.Prelude.{◌≡◌, ℕ, ◌+◌, ◌*◌, ◌-◌, ◌≤◌, ◌⊎◌, List, [], ◌∷◌, ◌++◌, length, All, Contains, codes, fold, count_by, ◌==◌}
 use Rattle.css_base.specs.declared.int_type.IntType.TheVariants as types
 use Rattle.css_base.specs.Tokens.{Kind, Word, Number, Punctuator, Lexeme, At}
-use Rattle.css_small.specs.Tree.{Statement, Program}
 
 -- White space: bytes 9 to 13 and space.
 abbrev pub IsBlank : ℕ → Type 0
@@ -20,11 +19,15 @@ abbrev pub IsWord : List ℕ → Type 0
 IsWord [] = ⊥
 IsWord (b ∷ bs) = IsNondigit b × All (λ c. IsNondigit c ⊎ IsDigit c) bs
 
--- The bytes of a preprocessing number behind its first ones (C99 6.4.8): a sign only directly behind an exponent's letter.
+-- A byte that may stand behind another one in a preprocessing number (C99 6.4.8): a sign only directly behind an
+-- exponent's letter.
+abbrev pub GoesOn : ℕ → ℕ → Type 0
+GoesOn before b = IsNondigit b ⊎ (IsDigit b ⊎ ((b ≡ 46) ⊎ (((b ≡ 43) ⊎ (b ≡ 45)) × Contains (codes "eEpP") before)))
+
+-- The bytes of a preprocessing number behind its first ones.
 abbrev pub IsNumberTail : ℕ → List ℕ → Type 0
 IsNumberTail before [] = Unit {0}
-IsNumberTail before (b ∷ bs) =
-    (IsNondigit b ⊎ (IsDigit b ⊎ ((b ≡ 46) ⊎ (((b ≡ 43) ⊎ (b ≡ 45)) × Contains (codes "eEpP") before)))) × IsNumberTail b bs
+IsNumberTail before (b ∷ bs) = GoesOn before b × IsNumberTail b bs
 
 -- A preprocessing number (C99 6.4.8): a digit, or a period and a digit, and what may follow.
 abbrev pub IsNumber : List ℕ → Type 0

@@ -14,6 +14,8 @@ mod characters;
 mod kinds;
 mod punctuators;
 mod scan;
+#[cfg(test)]
+mod tests;
 
 /// How many newlines stand among some bytes.
 fn newline_count(bytes: &[u8]) -> usize
@@ -22,8 +24,8 @@ fn newline_count(bytes: &[u8]) -> usize
     bytes.iter().filter(|byte| **byte == b'\n').count()
 }
 
-/// The next token of a text from a place on, which is in a line; none where only blanks are left. `NotSpelled` comes
-/// only where no tokens are spelled from there on.
+/// The next token of a text from a place on, which lies in this line; none where only blanks are left. `NotSpelled`
+/// comes only where no tokens are spelled from there on.
 fn next_token(
     alloc: Global,
     text: &[u8],

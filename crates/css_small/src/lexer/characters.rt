@@ -1,7 +1,6 @@
 //! The classes of a text's bytes.
 ghost use Rattle.std.specs.Prelude.{◌≡◌, ◌↔◌, ◌⊎◌, IsTrue};
-ghost use Rattle.css_small.specs.Spelling.{IsBlank, IsDigit, IsNondigit};
-ghost use Rattle.css_small.specs.Lexing.{GoesOn};
+ghost use Rattle.css_small.specs.Spelling.{IsBlank, IsDigit, IsNondigit, GoesOn};
 
 /// Whether a byte is white space: 9 to 13 and space.
 pub(super) fn is_blank(byte: u8) -> bool

@@ -16,6 +16,7 @@ const PAIRS: [[u8; 2]; 19] = [
 const TRIPLES: [[u8; 3]; 3] = [*b"...", *b"<<=", *b">>="];
 
 /// Whether these bytes are a punctuator.
+#[tactic(auto, using(crate::proofs::Longest::punctuator_size))]
 fn is_punctuator(bytes: &[u8]) -> bool
     ensures { IsTrue result ↔ Contains punctuators bytes.now }
 {

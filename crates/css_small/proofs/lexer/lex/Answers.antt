@@ -1,4 +1,4 @@
-use Rattle.std.proofs.Common.{◌≡◌, ◌∷◌, [], ◌++◌, length, drop, sym, ap, ◌∙◌, subst, append-nil, arith, rules, length-drop}
+use Rattle.std.proofs.Common.{◌≡◌, ◌∷◌, [], ◌++◌, drop, sym, ap, ◌∙◌, subst, append-nil, arith, rules, length-drop}
 use Rattle.std.proofs.lemmas.List.{map_push}
 use Rattle.css_base.specs.Tokens.{lexeme, lexemes}
 use Rattle.css_small.specs.Spelling.{SpellsTokens}

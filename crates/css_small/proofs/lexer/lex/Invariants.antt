@@ -1,6 +1,5 @@
-use Rattle.std.proofs.Common.{ℕ, ◌+◌, ◌-◌, ◌≤◌, List, ◌++◌, length, drop}
-use Rattle.css_base.specs.Tokens.{Lexeme, lexemes}
-use Rattle.css_small.specs.Spelling.{SpellsFrom, SpellsTokens}
+use Rattle.std.proofs.Common.{◌-◌, length}
+use Rattle.css_base.specs.Tokens.{lexemes}
 use Rattle.css_small.proofs.Steps.{IsSoFar}
 use Rattle.css_small.proofs.lexer.lex.Given as goal
 

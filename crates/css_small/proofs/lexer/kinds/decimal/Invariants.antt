@@ -1,4 +1,4 @@
-use Rattle.std.proofs.Common.{◌≡◌, ℕ, ◌≤◌, take, All}
+use Rattle.std.proofs.Common.{◌≡◌, ◌≤◌, take, All}
 use Rattle.css_small.specs.Spelling.{IsDigit, decimal_value}
 use Rattle.css_small.proofs.lexer.kinds.decimal.Given as goal
 

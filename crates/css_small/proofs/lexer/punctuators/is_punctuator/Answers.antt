@@ -1,8 +1,7 @@
-use Rattle.std.proofs.Common.{◌≡◌, length, get_or, true≢false, refl, sym, ap, ◌∙◌, arith}
+use Rattle.std.proofs.Common.{◌≡◌, length, get_or, refl, sym, ap, ◌∙◌, arith}
 use Rattle.css_small.specs.Spelling.{punctuators}
 use Rattle.css_small.specs.declared.lexer.punctuators.TheConstants.{SINGLES, PAIRS, TRIPLES}
 use Rattle.css_small.proofs.Tables.{is_among, same_at_length, strings, is_among-strings, one_byte, two_bytes, three_bytes}
-use Rattle.css_small.proofs.Longest.{punctuator_size}
 use Rattle.css_small.proofs.lexer.punctuators.is_punctuator.Goals as goal
 
 pub returns-in-len1 : goal.returns-in-len1
@@ -25,9 +24,3 @@ returns-in-len3 c =
     let long : length bytes ≡ 3 = omega arith in
     let is = c.contains-in-len3.ensures.value ∙ ap (is_among TRIPLES) (sym (three_bytes bytes long)) in
     same_at_length 3 TRIPLES punctuators (refl, refl) bytes c.contains-in-len3.result long is
-
-pub returns-in_default : goal.returns-in_default
-returns-in_default c = (λ h. absurd (true≢false (sym h)), λ h. absurd (let size = punctuator_size c.args.bytes.now h in omega arith))
-
-pub returns-in_default-2 : goal.returns-in_default-2
-returns-in_default-2 c = (λ h. absurd (true≢false (sym h)), λ h. absurd (let size = punctuator_size c.args.bytes.now h in omega arith))

@@ -1,4 +1,4 @@
-use Rattle.std.proofs.Common.{◌≡◌, [], length, take, Contains, inl, inr, subst, arith, length-take}
+use Rattle.std.proofs.Common.{◌≡◌, [], take, Contains, inl, inr, subst, arith, length-take}
 use Rattle.std.proofs.lemmas.Bool.{cases_lt, both_ways}
 use Rattle.css_small.specs.Spelling.{punctuators}
 use Rattle.css_small.proofs.Longest.{punctuator_size, no_front}

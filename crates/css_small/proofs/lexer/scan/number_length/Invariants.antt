@@ -1,5 +1,5 @@
+use Rattle.css_small.specs.Spelling.{GoesOn}
 use Rattle.std.proofs.Common.{◌≡◌, ℕ, suc, ◌-◌, ◌<◌, ◌≤◌, length, slice_index}
-use Rattle.css_small.specs.Lexing.{GoesOn}
 use Rattle.css_small.proofs.lexer.scan.number_length.Given as goal
 
 abbrev pub invariant-loop-end : goal.invariant-loop-end
