@@ -3,5 +3,7 @@
 
 mod big_endian;
 mod main_memory;
+#[cfg(test)]
+mod tests;
 
 pub use main_memory::MainMemory;

@@ -24,3 +24,4 @@ pub mod Programs
 pub mod FormReadings
 pub mod Rows
 pub mod Items
+pub mod Numbers

@@ -7,7 +7,7 @@ mod parser;
 mod tree;
 mod unspelled;
 
-pub use front::{one_program, read_program};
+pub use front::{numbers_fit, one_program, read_program};
 pub use tree::{Expression, Program, Statement};
 
 #[cfg(test)]

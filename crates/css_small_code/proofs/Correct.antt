@@ -1,15 +1,14 @@
 -- A program's code has the program's dialogue.
-use Rattle.std.proofs.Common.{◌≡◌, ◌≢◌, ℕ, ℤ, pos, ◌+◌, Bool, true, false, nat_eq, List, [], ◌∷◌, ◌++◌, length, refl, sym, ap, ◌∙◌, subst, arith, length-append}
+use Rattle.std.proofs.Common.{◌≡◌, ◌≢◌, ℕ, ℤ, pos, ◌+◌, Bool, true, false, nat_eq, List, [], ◌∷◌, ◌++◌, length, refl, ap, ◌∙◌, subst, arith, length-append}
 use Rattle.std.proofs.lemmas.Bool.{eqb-true}
-use Rattle.css_base.specs.declared.ending.FaultKind.{FaultKind}
 use Rattle.css_semantics.specs.Dialogue.{Enter, Tape, World, Outcome, Goes, Stops, Reason, Over, Faulted, then_do, ask}
 use Rattle.css_vm.specs.declared.code.Instr.{Instr}
 use Rattle.css_vm.specs.declared.code.Op.TheVariants as ops
 use Rattle.css_vm.specs.Code.{Routine, first_line}
 use Rattle.css_vm.specs.Machine.{Halt, Finished, Stuck, At, On, go_on, exec, target}
-use Rattle.css_small.specs.Tree.{Statements, Program}
-use Rattle.css_small_code.specs.Code.{statements_code, end_code, entry_code, program_code}
-use Rattle.css_small_code.specs.Meaning.{frame_of, Flow, meanings, left, source}
+use Rattle.css_small.specs.Tree.{Program}
+use Rattle.css_small_code.specs.Code.{statements_code, end_code, program_code}
+use Rattle.css_small_code.specs.Meaning.{frame_of, meanings, left, source}
 use Rattle.css_small_code.specs.Numbers.{HasNumbers}
 use Rattle.css_small_code.specs.Correct.{Codes}
 use Rattle.css_small_code.proofs.Runs.{Landing, Runs, runs_step, runs_asks, runs_then, then_assoc}

@@ -1,5 +1,5 @@
 -- The code of an expression fits the heights along it, and leaves one cell more.
-use Rattle.std.proofs.Common.{◌≡◌, ℕ, ◌+◌, ◌-◌, ◌<◌, ◌≤◌, pos, IsTrue, List, [], ◌∷◌, ◌++◌, length, Some, refl, sym, ap, ◌∙◌, subst, arith, length-append}
+use Rattle.std.proofs.Common.{◌≡◌, ℕ, ◌+◌, ◌-◌, pos, IsTrue, List, [], ◌∷◌, ◌++◌, length, Some, refl, sym, ap, ◌∙◌, subst, arith, length-append}
 use Rattle.std.specs.Prelude.{slice_get}
 use Rattle.css_num.specs.declared.operators.UnOp.{UnOp}
 use Rattle.css_num.specs.declared.operators.UnOp.TheVariants as unary
@@ -7,10 +7,9 @@ use Rattle.css_num.specs.declared.operators.BinOp.{BinOp}
 use Rattle.css_num.specs.declared.operators.BinOp.TheVariants as binary
 use Rattle.css_vm.specs.declared.code.Op.{Op}
 use Rattle.css_vm.specs.declared.code.Op.TheVariants as ops
-use Rattle.css_vm.specs.Soundness.{takes, gives, needs}
+use Rattle.css_vm.specs.Soundness.{takes, gives}
 use Rattle.css_small.specs.Tree.{Expression, Number, Variable, Unary, Binary, And, Or}
 use Rattle.css_small_code.specs.Code.{truth_code, unary_code, binary_code, expression_code}
-use Rattle.css_small_code.specs.Meaning.{place_of}
 use Rattle.css_small_code.proofs.Straight.{is_straight, FindCells}
 use Rattle.css_small_code.proofs.Operators.{binary_finds}
 use Rattle.css_small_code.proofs.Heights.{leaves, behind, behind-append, Lands, AllFit, both_fit, HeightsStand, heights_front, heights_back, first_height}

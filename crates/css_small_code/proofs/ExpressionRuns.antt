@@ -1,5 +1,5 @@
 -- The machine follows an expression, and leaves the cell of its value.
-use Rattle.std.proofs.Common.{◌≡◌, ℕ, ◌+◌, ◌%◌, ◌^◌, ℤ, pos, Bool, true, false, not, nat_eq, int_eq, if◌then◌else◌, List, [], ◌∷◌, ◌++◌, length, Option, Some, None, refl, sym, ap, ◌∙◌, subst, arith, length-append}
+use Rattle.std.proofs.Common.{◌≡◌, ℕ, ◌+◌, ℤ, pos, Bool, true, false, not, int_eq, if◌then◌else◌, List, [], ◌∷◌, ◌++◌, length, Option, Some, None, refl, sym, ap, ◌∙◌, subst, arith, length-append}
 use Rattle.css_base.specs.declared.int_type.IntType.TheVariants.{Int}
 use Rattle.css_base.specs.declared.ending.FaultKind.TheVariants.{DivideByZero}
 use Rattle.css_num.specs.declared.operators.UnOp.{UnOp}
@@ -7,16 +7,16 @@ use Rattle.css_num.specs.declared.operators.BinOp.{BinOp}
 use Rattle.css_num.specs.Types.{IsInRange}
 use Rattle.css_num.specs.Conversion.{converted}
 use Rattle.css_num.specs.Operators.{truth_value, unary_value, binary_value}
-use Rattle.css_semantics.specs.Dialogue.{Load, Tape, World, Outcome, Goes, Stops, Faulted, Item, item, Fault, then_do, ask}
+use Rattle.css_semantics.specs.Dialogue.{Load, Tape, World, Outcome, Goes, Faulted, item, Fault, then_do, ask}
 use Rattle.css_vm.specs.declared.code.Op.TheVariants as ops
 use Rattle.css_vm.specs.Code.{Routine}
 use Rattle.css_vm.specs.Cells.{cell_of}
-use Rattle.css_vm.specs.Machine.{At, On, exec}
+use Rattle.css_vm.specs.Machine.{At, On}
 use Rattle.css_small.specs.Tree.{Expression, Number, Variable, Unary, Binary, And, Or}
-use Rattle.css_small_code.specs.Code.{in_line, truth_code, unary_code, binary_code, expression_code}
+use Rattle.css_small_code.specs.Code.{truth_code, unary_code, binary_code, expression_code}
 use Rattle.css_small_code.specs.Meaning.{place_of, address_of, given, is_true, load, value_of}
 use Rattle.css_small_code.specs.Numbers.{IsWithin}
-use Rattle.css_small_code.proofs.Runs.{Run, Landing, Runs, Gives, runs_done, runs_steps, runs_stops, runs_known, runs_behind, then_assoc}
+use Rattle.css_small_code.proofs.Runs.{Landing, Runs, Gives, runs_done, runs_steps, runs_stops, runs_known, then_assoc}
 use Rattle.css_small_code.proofs.Steps.{From, Value, OpAt, runs_quiet, runs_asking, value_at}
 use Rattle.css_small_code.proofs.LineStands.{OpsStand, ops_front, ops_back}
 use Rattle.css_small_code.proofs.StraightSteps.{straight_runs}

@@ -6,7 +6,7 @@ use Rattle.css_vm.specs.declared.code.Op.{Op}
 use Rattle.css_vm.specs.declared.code.Op.TheVariants as ops
 use Rattle.css_vm.specs.declared.code.Conversion.TheVariants as conversions
 use Rattle.css_vm.specs.Code.{first_line}
-use Rattle.css_small.specs.Tree.{Expression, Statement, Declare, Initialise, Empty, Assign, Put, Return, Block, Statements, End, More, Program}
+use Rattle.css_small.specs.Tree.{Statement, Declare, Initialise, Empty, Assign, Put, Return, Block, Statements, End, More, Program}
 use Rattle.css_small_code.specs.Code.{in_line, expression_code, statement_code, statements_code, end_code, entry_code}
 use Rattle.css_small_code.specs.Lines.{line_in, line_in_all}
 

@@ -10,7 +10,7 @@ use Rattle.css_num.specs.Types.{least, greatest, IsInRange}
 use Rattle.css_num.specs.Operators.{truth_value, unary_value, binary_value, binary_type}
 use Rattle.css_num.proofs.Ranges.{converted_in_range}
 use Rattle.css_num.proofs.Values.{unary_in_range, binary_in_range}
-use Rattle.css_semantics.specs.Dialogue.{Load, Tape, World, Outcome, Goes, Stops, then_do, ask}
+use Rattle.css_semantics.specs.Dialogue.{Load, Tape, World, Outcome, Goes, then_do, ask}
 use Rattle.css_small.specs.Tree.{Expression, Number, Variable, Unary, Binary, And, Or}
 use Rattle.css_small_code.specs.Meaning.{given, is_true, address_of, value_of}
 use Rattle.css_small_code.specs.Numbers.{IsWithin}

@@ -1,5 +1,5 @@
 -- A program's code is sound.
-use Rattle.std.proofs.Common.{◌≡◌, ℕ, ◌+◌, ◌-◌, ◌≤◌, pos, Bool, true, false, nat_eq, List, [], ◌∷◌, ◌++◌, length, refl, sym, ap, ◌∙◌, subst, arith, length-append}
+use Rattle.std.proofs.Common.{◌≡◌, ℕ, ◌+◌, ◌-◌, Bool, true, false, nat_eq, List, [], ◌∷◌, ◌++◌, length, refl, sym, ap, ◌∙◌, subst, arith}
 use Rattle.css_vm.specs.declared.code.Instr.{Instr}
 use Rattle.css_vm.specs.declared.code.Op.{Op}
 use Rattle.css_vm.specs.declared.code.Op.TheVariants as ops
@@ -7,7 +7,7 @@ use Rattle.css_vm.specs.declared.code.Conversion.TheVariants as conversions
 use Rattle.css_vm.specs.Code.{first_line}
 use Rattle.css_vm.specs.Soundness.{IsSound}
 use Rattle.css_small.specs.Tree.{Expression, Statement, Declare, Initialise, Empty, Assign, Put, Return, Block, Statements, End, More, Program}
-use Rattle.css_small_code.specs.Code.{in_line, expression_code, assignment_code, statement_code, statements_code, end_code, entry_code, program_code}
+use Rattle.css_small_code.specs.Code.{in_line, expression_code, assignment_code, statement_code, statements_code, end_code, program_code}
 use Rattle.css_small_code.proofs.FirstLines.{entry_if}
 use Rattle.css_small_code.proofs.Heights.{behind, behind-append, EndsByRet, ends_behind, AllFit, both_fit, HeightsStand, heights_front, heights_back, ranked, ops_of, length-ops_of, heights_of, sound}
 use Rattle.css_small_code.proofs.Stands.{stands_whole}

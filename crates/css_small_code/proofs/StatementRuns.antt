@@ -4,16 +4,15 @@ use Rattle.css_base.specs.declared.int_type.IntType.TheVariants.{Int}
 use Rattle.css_num.specs.Types.{IsInRange}
 use Rattle.css_num.specs.Conversion.{modulo}
 use Rattle.css_semantics.specs.Dialogue.{Leave, Store, Out, End, Tape, World, Outcome, Goes, Stops, then_do, ask}
-use Rattle.css_semantics.specs.Memory.{big_endian_bytes}
 use Rattle.css_vm.specs.declared.code.Op.TheVariants as ops
 use Rattle.css_vm.specs.declared.code.Conversion.TheVariants as conversions
 use Rattle.css_vm.specs.Code.{Routine}
-use Rattle.css_vm.specs.Cells.{cell_of, int_of}
-use Rattle.css_vm.specs.Machine.{Halt, Finished, State, At, After, On, ended, leaving, go_on, exec}
+use Rattle.css_vm.specs.Cells.{cell_of}
+use Rattle.css_vm.specs.Machine.{Halt, Finished, State, At, On, ended, leaving, go_on, exec}
 use Rattle.css_small.specs.Tree as tree
 use Rattle.css_small.specs.Tree.{Expression, Statement, Declare, Initialise, Empty, Assign, Put, Return, Block, Statements, More}
 use Rattle.css_small_code.specs.Code.{in_line, expression_code, assignment_code, statement_code, statements_code, end_code}
-use Rattle.css_small_code.specs.Meaning.{place_of, address_of, Flow, Next, Returned, on_next, store, value_of, assigned, meaning, meanings, leave, left}
+use Rattle.css_small_code.specs.Meaning.{place_of, Flow, Next, Returned, on_next, store, assigned, meaning, meanings, leave, left}
 use Rattle.css_small_code.specs.Numbers.{IsWithin, AreWithin, AllWithin}
 use Rattle.css_small_code.proofs.Lines.{length-in_line}
 use Rattle.css_small_code.proofs.Runs.{Run, Landing, Runs, runs_done, runs_step, runs_asks, runs_then, runs_known, then_assoc}

@@ -1,5 +1,5 @@
 -- Steps of the machine at an instruction, in a code and at a frame that stay the same.
-use Rattle.std.proofs.Common.{◌≡◌, ℕ, suc, ◌+◌, ℤ, List, ◌∷◌, Some, refl, ap, ◌∙◌, subst}
+use Rattle.std.proofs.Common.{◌≡◌, ℕ, suc, ℤ, List, ◌∷◌, Some, refl, ap, ◌∙◌, subst}
 use Rattle.std.specs.Prelude.{slice_get}
 use Rattle.css_semantics.specs.Dialogue.{Tape, World, Outcome, Goes, then_do}
 use Rattle.css_vm.specs.declared.code.Op.{Op}

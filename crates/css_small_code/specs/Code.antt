@@ -1,5 +1,5 @@
 -- The instructions of a program. Jumps name places of the whole body, so each piece's code depends on its place.
-use Rattle.std.specs.Prelude.{ℕ, ◌+◌, ℤ, pos, List, [], ◌∷◌, ◌++◌, length, nat_eq, if◌then◌else◌}
+use Rattle.std.specs.Prelude.{ℕ, ◌+◌, pos, List, [], ◌∷◌, ◌++◌, length, nat_eq, if◌then◌else◌}
 use Rattle.css_num.specs.declared.operators.UnOp.{UnOp}
 use Rattle.css_num.specs.declared.operators.UnOp.TheVariants as unary
 use Rattle.css_num.specs.declared.operators.BinOp.{BinOp}

@@ -1,5 +1,5 @@
 -- What a program means: the dialogue that it has with a world.
-use Rattle.std.specs.Prelude.{ℕ, ◌+◌, ◌*◌, ◌%◌, ◌^◌, ℤ, pos, List, [], ◌∷◌, Option, Some, None, Bool, not, if◌then◌else◌}
+use Rattle.std.specs.Prelude.{ℕ, ◌+◌, ◌*◌, ◌%◌, ◌^◌, ℤ, pos, [], ◌∷◌, Option, Some, None, Bool, not, if◌then◌else◌}
 use Rattle.std.specs.Ordering.{int_eq}
 use Rattle.css_base.specs.declared.int_type.IntType.TheVariants.{Int}
 use Rattle.css_base.specs.declared.ending.FaultKind.TheVariants.{DivideByZero}

@@ -39,9 +39,8 @@ pub(crate) fn quotient(a: u64, b: u64) -> u64
     requires { 0 < b }
     ensures { result ≡ quotient_of a b }
 {
-    a.cast_signed()
-        .wrapping_div(b.cast_signed())
-        .cast_unsigned()
+    let quotient = a.cast_signed().wrapping_div(b.cast_signed());
+    quotient.cast_unsigned()
 }
 
 /// What that quotient leaves, with the sign of `a`.
@@ -49,9 +48,8 @@ pub(crate) fn remainder(a: u64, b: u64) -> u64
     requires { 0 < b }
     ensures { result ≡ remainder_of a b }
 {
-    a.cast_signed()
-        .wrapping_rem(b.cast_signed())
-        .cast_unsigned()
+    let remainder = a.cast_signed().wrapping_rem(b.cast_signed());
+    remainder.cast_unsigned()
 }
 
 pub(crate) fn left_shift(width: ShiftWidth, a: u64, b: u64) -> u64

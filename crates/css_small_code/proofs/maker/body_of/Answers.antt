@@ -1,4 +1,4 @@
-use Rattle.std.proofs.Common.{◌++◌, length, ap, sym, ◌∙◌, subst}
+use Rattle.std.proofs.Common.{sym, subst}
 use Rattle.css_small.specs.Tree.{listed, program}
 use Rattle.css_small_code.specs.Numbers.{AllWithin}
 use Rattle.css_small_code.proofs.Trees.{all_within_more}

@@ -1,4 +1,4 @@
-use Rattle.std.proofs.Common.{◌≡◌, ◌++◌, length, ap, sym, ◌∙◌, subst, rules}
+use Rattle.std.proofs.Common.{◌++◌, length, ap, sym, ◌∙◌, subst, rules}
 use Rattle.std.proofs.lemmas.Result.{on_ok_weaker}
 use Rattle.css_small.specs.declared.tree.Statement.{the_lemmas}
 use Rattle.css_small.specs.Tree.{Block, statement, listed}
