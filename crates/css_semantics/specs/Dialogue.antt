@@ -1,5 +1,7 @@
 -- A program is a dialogue with a world: it asks one thing after another, and the world replies or ends the dialogue.
 use Rattle.std.specs.Prelude.{ℕ, ℤ, List, [], ◌∷◌, ◌++◌}
+use Rattle.css_base.specs.declared.ending.FaultKind.{FaultKind}
+use Rattle.css_base.specs.declared.ending.FaultKind.TheVariants.{OutsideMemory}
 
 -- one thing that a program asks or does
 pub data Action : Type 0 where
@@ -7,8 +9,14 @@ pub data Action : Type 0 where
   Enter : (size : ℕ) → Action
   -- leaves the frame of so many bytes at this base
   Leave : (base size : ℕ) → Action
+  -- loads so many bytes; the reply is their big-endian value without sign
+  Load : (address width : ℕ) → Action
+  -- stores these bytes
+  Store : (address : ℕ) (bytes : List ℕ) → Action
   -- writes these bytes, the text of one conversion; the reply is their number
   Out : (bytes : List ℕ) → Action
+  -- is at fault
+  Fault : (kind : FaultKind) → Action
   -- ends main with this result
   End : (result : ℤ) → Action
 
@@ -21,18 +29,22 @@ pub record Item : Type 0 where
 abbrev pub Tape : Type 0
 Tape = List Item
 
--- the world's reply: go on with this value, or the dialogue is over at the item, which is the last on the tape
+-- the world's reply: go on with this value, or the access isn't wholly live, or the dialogue is over at the item, which is the
+-- last on the tape
 pub data Reply : Type 0 where
   Says : (value : ℕ) → Reply
+  Fails : Reply
   Ends : Reply
 
 -- a world replies to what is asked now, after all that was asked before
 abbrev pub World : Type 0
 World = Tape → Item → Reply
 
--- why a dialogue stops before there is a value: the world ended it, or the fuel is spent by which a definition ends
+-- why a dialogue stops before there is a value: the world ended it, the program is at fault in a line, or the fuel is spent by
+-- which a definition ends
 pub data Reason : Type 0 where
   Over : Reason
+  Faulted : (kind : FaultKind) (line : ℕ) → Reason
   Tired : Reason
 
 -- a value, or why there is none, with the tape
@@ -45,15 +57,21 @@ abbrev pub then_do : {A B : Type 0} → Outcome A → (A → Tape → Outcome B)
 then_do (Goes value tape) go = go value tape
 then_do (Stops why tape) go = Stops why tape
 
-abbrev pub replied : Reply → Tape → Outcome ℕ
-replied (Says value) tape = Goes value tape
-replied Ends tape = Stops Over tape
+abbrev pub item : Action → ℕ → Item
+item action line = record { action = action; line = line }
+
+-- the program is at fault, which stands on the tape
+abbrev pub fault : {A : Type 0} → FaultKind → ℕ → Tape → Outcome A
+fault kind line tape = Stops (Faulted kind line) (item (Fault kind) line ∷ tape)
+
+abbrev pub replied : Reply → ℕ → Tape → Outcome ℕ
+replied (Says value) line tape = Goes value tape
+replied Fails line tape = fault OutsideMemory line tape
+replied Ends line tape = Stops Over tape
 
 -- asks one thing, in a line
 abbrev pub ask : World → Action → ℕ → Tape → Outcome ℕ
-ask w action line tape =
-    let item : Item = record { action = action; line = line } in
-    replied (w tape item) (item ∷ tape)
+ask w action line tape = replied (w tape (item action line)) line (item action line ∷ tape)
 
 -- asks one thing, and goes on with a value of one's own
 abbrev pub tell : {A : Type 0} → World → Action → ℕ → A → Tape → Outcome A
@@ -67,4 +85,4 @@ written_by _ = []
 -- all that a tape writes, the oldest first
 abbrev pub output : Tape → List ℕ
 output [] = []
-output (item ∷ tape) = output tape ++ written_by item.action
+output (i ∷ tape) = output tape ++ written_by i.action

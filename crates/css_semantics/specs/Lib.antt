@@ -1,2 +1,4 @@
 pub mod Dialogue
+pub mod Worlds
+pub mod Memory
 pub mod Flat

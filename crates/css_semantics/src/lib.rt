@@ -1,2 +1,6 @@
-//! What programs mean: dialogues with a world, and the worlds. All of it is in `specs/`.
+//! What programs mean: dialogues with a world, and the worlds. The definitions are in `specs/`; here stand the numbers that the
+//! code shares with them.
 #![tactic(auto)]
+
+/// The most bytes of main's stack, where pragmas are erased.
+pub const STACK_LIMIT: u32 = 1_064_960;

@@ -2,6 +2,7 @@
 ghost use Rattle.std.specs.Prelude.{◌≡◌, ◌≤◌, ℕ, List, length, IfOk, IfErr};
 ghost use Rattle.css_small.specs.Tree.{Program, program};
 ghost use Rattle.css_small.specs.Grammar.{Spells, IsNotBuilt};
+ghost use Rattle.css_small.specs.Numbers.{HasNumbers};
 ghost use Rattle.css_small.specs.Refusal.{IfRefused, fault_of};
 
 use crate::lexer::{lex, one_list_of_tokens};
@@ -36,6 +37,12 @@ pub fn one_program()
     one_list_of_tokens();
     one_tree();
 }
+
+/// The numbers of a program are in their ranges: it has at most 1,000 variables, its constants have type int, and it names no
+/// variable but its own.
+pub fn numbers_fit()
+    ensures { (text : List ℕ) (p : Program) → Spells text p → HasNumbers p }
+{}
 
 impl From<Unspelled> for FrontFault {
     ghost from_gives = { λ unspelled fault. fault ≡ fault_of unspelled };

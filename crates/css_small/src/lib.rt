@@ -2,11 +2,13 @@
 #![tactic(auto)]
 
 mod front;
-mod front_token;
 mod lexer;
 mod parser;
 mod tree;
 mod unspelled;
 
-pub use front::{one_program, read_program};
-pub use tree::{Program, Statement};
+pub use front::{numbers_fit, one_program, read_program};
+pub use tree::{Expression, Program, Statement};
+
+#[cfg(test)]
+mod tests;

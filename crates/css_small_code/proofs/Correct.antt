@@ -1,58 +1,69 @@
 -- A program's code has the program's dialogue.
-use Rattle.std.proofs.Common.{◌≡◌, ◌≢◌, ℕ, ℤ, ◌+◌, List, [], ◌∷◌, ◌++◌, length, refl, sym, ap, ◌∙◌, subst}
-use Rattle.std.specs.Prelude.{Bool, true, false, nat_eq}
+use Rattle.std.proofs.Common.{◌≡◌, ◌≢◌, ℕ, ℤ, pos, ◌+◌, Bool, true, false, nat_eq, List, [], ◌∷◌, ◌++◌, length, refl, ap, ◌∙◌, subst, arith, length-append}
 use Rattle.std.proofs.lemmas.Bool.{eqb-true}
-use Rattle.css_semantics.specs.Dialogue.{Enter, Tape, World, Outcome, Goes, Stops, Reason, Over, then_do, ask}
+use Rattle.css_semantics.specs.Dialogue.{Enter, Tape, World, Outcome, Goes, Stops, Reason, Over, Faulted, then_do, ask}
 use Rattle.css_vm.specs.declared.code.Instr.{Instr}
-use Rattle.css_vm.specs.Code.{first_line}
+use Rattle.css_vm.specs.declared.code.Op.TheVariants as ops
+use Rattle.css_vm.specs.Code.{Routine, first_line}
 use Rattle.css_vm.specs.Machine.{Halt, Finished, Stuck, At, On, go_on, exec, target}
-use Rattle.css_small.specs.Tree.{Statement, Program}
-use Rattle.css_small_code.specs.Ints.{AreInts}
-use Rattle.css_small_code.specs.Meaning.{meaning_of_puts, meaning_of_return, source}
-use Rattle.css_small_code.specs.Code.{puts_code, return_code, entry_code, body_line, program_code}
+use Rattle.css_small.specs.Tree.{Program}
+use Rattle.css_small_code.specs.Code.{statements_code, end_code, program_code}
+use Rattle.css_small_code.specs.Meaning.{frame_of, meanings, left, source}
+use Rattle.css_small_code.specs.Numbers.{HasNumbers}
 use Rattle.css_small_code.specs.Correct.{Codes}
-use Rattle.css_small_code.proofs.Runs.{Runs, runs_step, runs_asks, runs_then, then_assoc}
+use Rattle.css_small_code.proofs.Runs.{Landing, Runs, runs_step, runs_asks, runs_then, then_assoc}
 use Rattle.css_small_code.proofs.Ends.{IsOver, Finishes, same, reached, only}
-use Rattle.css_small_code.proofs.Stands.{stands_front, stands_back, stands_whole}
-use Rattle.css_small_code.proofs.Steps.{From}
-use Rattle.css_small_code.proofs.Statements.{entry_if, entry_runs, puts_run, return_runs}
-use Rattle.css_small_code.proofs.Heights.{ranked}
-use Rattle.css_small_code.proofs.Sound.{program_heights, is_sound}
+use Rattle.css_small_code.proofs.Stands.{Stands, stands_front, stands_back, stands_whole}
+use Rattle.css_small_code.proofs.Steps.{From, runs_quiet}
+use Rattle.css_small_code.proofs.FirstLines.{entry_if}
+use Rattle.css_small_code.proofs.StatementRuns.{statements_run, leaves}
+use Rattle.css_small_code.proofs.Heights.{ranked, heights_of}
+use Rattle.css_small_code.proofs.Sound.{is_sound}
 
--- the code of the statements begins in the line of the first
-first_statement : (puts : List Statement) (result : Statement) → first_line (puts_code puts ++ return_code result) ≡ body_line puts result
-first_statement [] result = refl
-first_statement (s ∷ puts) result = refl
+-- ---- the entry
 
--- with the entry's code before it
-starts_if : (b : Bool) (line : ℕ) (rest : List Instr) → (b ≡ true → first_line rest ≡ line) → first_line (entry_if b line ++ rest) ≡ line
-starts_if true line rest h = h refl
-starts_if false line rest h = refl
+-- code with the entry's code before it begins in main's line
+starts_if : (within : Bool) (line : ℕ) (body : ℕ → List Instr) (last : List Instr) → (within ≡ true → first_line (body 0 ++ last) ≡ line) → first_line (entry_if within line ++ body (length (entry_if within line)) ++ last) ≡ line
+starts_if true line body last h = h refl
+starts_if false line body last h = refl
 
--- the first instruction has main's line
 starts_in : (p : Program) → first_line (program_code p).body ≡ p.line
 starts_in p =
-    let line = body_line p.puts p.result in
-    starts_if (nat_eq p.line line) p.line (puts_code p.puts ++ return_code p.result) (λ e. first_statement p.puts p.result ∙ sym (eqb-true p.line line e))
+    let first = first_line (statements_code p.body 0 ++ end_code p.end) in
+    starts_if (nat_eq first p.line) p.line (statements_code p.body) (end_code p.end) (eqb-true first p.line)
+
+module _ (w : World) (f : Routine) (base : ℕ) where
+  -- the entry's code does nothing
+  entry_runs : {A : Type 0} {n : ℕ} {land : Landing A} {o : Outcome A} (within : Bool) (line : ℕ) (t : Tape) → Stands f.body 0 (entry_if within line) → Runs n (From w f base (length (entry_if within line)) [] t) land o → Runs n (From w f base 0 [] t) land o
+  entry_runs true line t h r = r
+  entry_runs false line t h r = runs_quiet w f base line (ops.Push (pos 0)) 1 (0 ∷ []) h.0 refl (runs_quiet w f base line ops.Drop 2 [] h.1.0 refl r)
+
+-- ---- the program
 
 -- the machine follows main behind its entry
-body_runs : (w : World) (p : Program) (n base : ℕ) (t : Tape) → AreInts p → Runs n (From w (program_code p) base 0 [] t) Finishes (then_do (meaning_of_puts w p.puts t) (λ r t. meaning_of_return w base p.result t))
-body_runs w p n base t ints =
+body_runs : (w : World) (p : Program) (n base : ℕ) (t : Tape) → HasNumbers p → Runs n (From w (program_code p) base 0 [] t) Finishes (then_do (meanings w base p.body t) (left w base (frame_of p) p.end))
+body_runs w p n base t numbers =
     let f = program_code p in
-    let line = body_line p.puts p.result in
-    let entry = entry_code p.line line in
-    let puts = puts_code p.puts in
+    let within = nat_eq (first_line (statements_code p.body 0 ++ end_code p.end)) p.line in
+    let entry = entry_if within p.line in
+    let at = length entry in
+    let body = statements_code p.body at in
+    let last = end_code p.end in
     let whole = stands_whole f.body in
-    let rest = stands_back f.body 0 entry (puts ++ return_code p.result) whole in
-    let last = stands_back f.body (0 + length entry) puts (return_code p.result) rest in
-    entry_runs w f base p.line line 0 [] t (stands_front f.body 0 entry (puts ++ return_code p.result) whole) (runs_then (puts_run w f base p.puts (0 + length entry) [] t (stands_front f.body (0 + length entry) puts (return_code p.result) rest)) (λ r t. return_runs w f base p.result (0 + length entry + length puts) [] t refl ints.result last))
+    let front = stands_front f.body 0 (entry ++ body) last whole in
+    let here : 0 + length entry ≡ length entry = omega arith in
+    let stands = subst (λ k. Stands f.body k body) here (stands_back f.body 0 entry body front) in
+    let there : 0 + length (entry ++ body) ≡ at + length body = omega (arith, length-append entry body) in
+    let end = subst (λ k. Stands f.body k last) there (stands_back f.body 0 (entry ++ body) last whole) in
+    entry_runs w f base within p.line t (stands_front f.body 0 entry body front)
+    (runs_then (statements_run w f base p.variables n p.body at [] t numbers.within stands) (λ flow t'. leaves w f base p.variables n flow p.end (at + length body) [] t' end))
 
 -- the machine follows a program
-program_runs : (w : World) (p : Program) (n : ℕ) → AreInts p → Runs n (target w (program_code p)) Finishes (source w p)
-program_runs w p n ints =
+program_runs : (w : World) (p : Program) (n : ℕ) → HasNumbers p → Runs n (target w (program_code p)) Finishes (source w p)
+program_runs w p n numbers =
     let f = program_code p in
     let entered = λ (k base : ℕ) (t : Tape). From w f base 0 [] t k in
-    runs_step (λ k. then_do (ask w (Enter 0) p.line []) (entered k)) (λ k. then_assoc (ask w (Enter 0) (first_line f.body) []) (λ base t. Goes (On (At base 0 [])) t) (go_on (exec w f k)) ∙ ap (λ line. then_do (ask w (Enter 0) line []) (entered k)) (starts_in p)) (runs_then (runs_asks {land = entered} (ask w (Enter 0) p.line []) (λ k. refl)) (λ base t. body_runs w p n base t ints))
+    runs_step (λ k. then_do (ask w (Enter (frame_of p)) p.line []) (entered k)) (λ k. then_assoc (ask w (Enter f.frame) (first_line f.body) []) (λ base t. Goes (On (At base 0 [])) t) (go_on (exec w f k)) ∙ ap (λ line. then_do (ask w (Enter f.frame) line []) (entered k)) (starts_in p)) (runs_then (runs_asks {land = entered} (ask w (Enter (frame_of p)) p.line []) (λ k. refl)) (λ base t. body_runs w p n base t numbers))
 
 -- the program's outcome from the machine's
 finished_same : (o : Outcome ℤ) (v : ℤ) (t : Tape) → same o ≡ Goes (Finished v) t → o ≡ Goes v t
@@ -67,23 +78,25 @@ not_stuck : (o : Outcome ℤ) (t : Tape) → same o ≢ Goes Stuck t
 not_stuck (Goes u s) t e = cc
 not_stuck (Stops how s) t e = cc
 
-module _ (p : Program) (ints : AreInts p) where
+module _ (p : Program) (numbers : HasNumbers p) where
   -- the machine comes to the program's end
   comes_to : (w : World) (o : Outcome ℤ) → source w p ≡ o → (n : ℕ) × (target w (program_code p) n ≡ same o)
   comes_to w o e =
-      subst (λ o. (n : ℕ) × (target w (program_code p) n ≡ same o)) e (reached w (program_code p) (source w p) (program_runs w p 0 ints))
+      subst (λ o. (n : ℕ) × (target w (program_code p) n ≡ same o)) e (reached w (program_code p) (source w p) (program_runs w p 0 numbers))
 
   -- an end of the machine is the program's
   comes_from : (w : World) (n : ℕ) (o : Outcome Halt) → IsOver o → target w (program_code p) n ≡ o → same (source w p) ≡ o
-  comes_from w n o over e = only w (program_code p) n o (source w p) over e (program_runs w p n ints)
+  comes_from w n o over e = only w (program_code p) n o (source w p) over e (program_runs w p n numbers)
 
   pub codes : Codes (program_code p) p
   codes = record {
-    sound = (ranked (program_heights p), is_sound p);
+    sound = (ranked (heights_of (program_code p)), is_sound p);
     frame = refl;
     finishes = λ w v t e. comes_to w (Goes v t) e;
     is_over = λ w t e. comes_to w (Stops Over t) e;
+    faults = λ w kind line t e. comes_to w (Stops (Faulted kind line) t) e;
     finishes_only = λ w n v t e. finished_same (source w p) v t (comes_from w n (Goes (Finished v) t) tt e);
     is_over_only = λ w n t e. stops_same (source w p) Over t (comes_from w n (Stops Over t) tt e);
+    faults_only = λ w n kind line t e. stops_same (source w p) (Faulted kind line) t (comes_from w n (Stops (Faulted kind line) t) tt e);
     never_stuck = λ w n t e. not_stuck (source w p) t (comes_from w n (Goes Stuck t) tt e);
   }

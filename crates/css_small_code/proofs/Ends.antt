@@ -1,7 +1,7 @@
 -- A run that is over stays over with more steps, so it has one end: that of the program which it follows.
 use Rattle.std.proofs.Common.{◌≡◌, ℕ, ℤ, zero, suc, ◌≤◌, [], sym, ◌∙◌, subst, ⊎_elim, arith}
 use Rattle.std.proofs.lemmas.Bool.{cases_lt}
-use Rattle.css_semantics.specs.Dialogue.{Tape, World, Outcome, Goes, Stops, Over, Tired, then_do}
+use Rattle.css_semantics.specs.Dialogue.{Tape, World, Outcome, Goes, Stops, Over, Faulted, Tired, then_do}
 use Rattle.css_vm.specs.Code.{Routine}
 use Rattle.css_vm.specs.Machine.{Halt, Finished, State, Begin, After, Ended, On, step, go_on, exec, target}
 use Rattle.css_small_code.proofs.Runs.{Landing, Runs, RunsTo}
@@ -10,6 +10,7 @@ use Rattle.css_small_code.proofs.Runs.{Landing, Runs, RunsTo}
 abbrev pub IsOver : Outcome Halt → Type 0
 IsOver (Goes halt t) = Unit {0}
 IsOver (Stops Over t) = Unit {0}
+IsOver (Stops (Faulted kind line) t) = Unit {0}
 IsOver (Stops Tired t) = ⊥
 
 -- where the first is over, the second is over with the same outcome
@@ -60,6 +61,7 @@ module _ (w : World) (f : Routine) where
   only_to : (n : ℕ) (p : Outcome Halt) (o : Outcome ℤ) → IsOver p → target w f n ≡ p → RunsTo n (target w f) Finishes o → same o ≡ p
   only_to n p (Goes v t) over e r = let b = r 0 in one_end w f b.0 n (Goes (Finished v) t) p tt over b.2 e
   only_to n p (Stops Over t) over e r = one_end w f r.0 n (Stops Over t) p tt over r.2 e
+  only_to n p (Stops (Faulted kind line) t) over e r = one_end w f r.0 n (Stops (Faulted kind line) t) p tt over r.2 e
   only_to n p (Stops Tired t) over e r = absurd (subst IsOver (sym (longer_target w f n r.0 p r.1 over e) ∙ r.2) over)
 
   -- and to no other

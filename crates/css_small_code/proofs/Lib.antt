@@ -1,8 +1,26 @@
-mod Runs
-mod Ends
-mod Stands
-mod Steps
-mod Statements
-mod Heights
-mod Sound
-mod Correct
+pub mod Cells
+pub mod CellsArithmetic
+pub mod CellsBits
+pub mod CellsMemory
+pub mod CellsTests
+pub mod Correct
+pub mod Emitted
+pub mod Ends
+pub mod ExpressionHeights
+pub mod ExpressionRuns
+pub mod FirstLines
+pub mod Heights
+pub mod InRange
+pub mod LineStands
+pub mod Lines
+pub mod OperatorSteps
+pub mod Operators
+pub mod Runs
+pub mod Sound
+pub mod Stands
+pub mod StatementRuns
+pub mod Steps
+pub mod Straight
+pub mod StraightFaults
+pub mod StraightSteps
+pub mod Trees

@@ -1,6 +1,6 @@
 -- The machine follows a part of a program, whatever the machine's code and the part are.
-use Rattle.std.proofs.Common.{◌≡◌, ℕ, suc, ◌≤◌, refl, ◌∙◌, subst, arith}
-use Rattle.css_semantics.specs.Dialogue.{Tape, Outcome, Goes, Stops, then_do}
+use Rattle.std.proofs.Common.{◌≡◌, ℕ, suc, ◌+◌, ◌≤◌, refl, ◌∙◌, subst, arith}
+use Rattle.css_semantics.specs.Dialogue.{Tape, Reason, Outcome, Goes, Stops, then_do}
 use Rattle.css_vm.specs.Machine.{Halt}
 
 -- what so many steps give
@@ -32,6 +32,18 @@ step_to n from mid land (Stops why t) first r = (suc r.0, omega (arith, r.1), fi
 pub runs_step : {A : Type 0} {n : ℕ} {from : Run} (mid : Run) {land : Landing A} {o : Outcome A} → ((k : ℕ) → from (suc k) ≡ mid k) → Runs n mid land o → Runs n from land o
 runs_step {n = n} {from = from} mid {land = land} {o = o} first r = record { by = step_to n from mid land o first r.by }
 
+steps_to : {A : Type 0} (n m : ℕ) (from mid : Run) (land : Landing A) (o : Outcome A) → ((k : ℕ) → from (m + k) ≡ mid k) → RunsTo n mid land o → RunsTo n from land o
+steps_to n m from mid land (Goes a t) first r = λ k. let b = r k in (m + b.0, omega (arith, b.1), first b.0 ∙ b.2)
+steps_to n m from mid land (Stops why t) first r = (m + r.0, omega (arith, r.1), first r.0 ∙ r.2)
+
+-- so many steps first
+pub runs_steps : {A : Type 0} {n : ℕ} {from : Run} (m : ℕ) (mid : Run) {land : Landing A} {o : Outcome A} → ((k : ℕ) → from (m + k) ≡ mid k) → Runs n mid land o → Runs n from land o
+runs_steps {n = n} {from = from} m mid {land = land} {o = o} first r = record { by = steps_to n m from mid land o first r.by }
+
+-- so many steps, and the machine stops
+pub runs_stops : {A : Type 0} {n : ℕ} {from : Run} {land : Landing A} (m : ℕ) (why : Reason) (t : Tape) → ((k : ℕ) → from (m + k) ≡ Stops why t) → Runs n from land (Stops why t)
+runs_stops {n = n} m why t stops = record { by = (m + n, omega arith, stops n) }
+
 asks_to : {A : Type 0} (n : ℕ) (from : Run) (land : Landing A) (o : Outcome A) → ((k : ℕ) → from k ≡ then_do o (land k)) → RunsTo n from land o
 asks_to n from land (Goes a t) asked = λ k. (k, omega arith, asked k)
 asks_to n from land (Stops why t) asked = (n, omega arith, asked n)
@@ -52,6 +64,29 @@ then_to n from mid land (Stops why t) go r next = r
 pub runs_then : {A B : Type 0} {n : ℕ} {from : Run} {mid : Landing A} {land : Landing B} {o : Outcome A} {go : A → Tape → Outcome B} → Runs n from mid o → ((a : A) (t : Tape) → Runs n (λ k. mid k a t) land (go a t)) → Runs n from land (then_do o go)
 runs_then {n = n} {from = from} {mid = mid} {land = land} {o = o} {go = go} r next =
     record { by = then_to n from mid land o go r.by next }
+
+-- the value has a property, if there is one
+abbrev pub Gives : {A : Type 0} → (A → Type 0) → Outcome A → Type 0
+Gives P (Goes a t) = P a
+Gives P (Stops why t) = Unit {0}
+
+pub gives_any : {A : Type 0} (o : Outcome A) → Gives (λ a. Unit {0}) o
+gives_any (Goes a t) = tt
+gives_any (Stops why t) = tt
+
+-- what goes on from such a value
+pub gives_then : {A B : Type 0} (P : A → Type 0) (Q : B → Type 0) (o : Outcome A) (go : A → Tape → Outcome B) → Gives P o → ((a : A) (t : Tape) → P a → Gives Q (go a t)) → Gives Q (then_do o go)
+gives_then P Q (Goes a t) go h next = next a t h
+gives_then P Q (Stops why t) go h next = tt
+
+known_to : {A B : Type 0} (n : ℕ) (P : A → Type 0) (from : Run) (mid : Landing A) (land : Landing B) (o : Outcome A) (go : A → Tape → Outcome B) → Gives P o → RunsTo n from mid o → ((a : A) (t : Tape) → P a → Runs n (λ k. mid k a t) land (go a t)) → RunsTo n from land (then_do o go)
+known_to n P from mid land (Goes a t) go h r next = after_to n from (λ k. mid k a t) land (go a t) r (next a t h).by
+known_to n P from mid land (Stops why t) go h r next = r
+
+-- one part, and then another from a value with a property
+pub runs_known : {A B : Type 0} {n : ℕ} (P : A → Type 0) {from : Run} {mid : Landing A} {land : Landing B} {o : Outcome A} {go : A → Tape → Outcome B} → Gives P o → Runs n from mid o → ((a : A) (t : Tape) → P a → Runs n (λ k. mid k a t) land (go a t)) → Runs n from land (then_do o go)
+runs_known {n = n} P {from = from} {mid = mid} {land = land} {o = o} {go = go} h r next =
+    record { by = known_to n P from mid land o go h r.by next }
 
 -- to go on with the value alone changes nothing
 then_goes : {A : Type 0} (o : Outcome A) → then_do o Goes ≡ o

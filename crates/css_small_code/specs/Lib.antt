@@ -1,4 +1,5 @@
-pub mod Ints
 pub mod Meaning
 pub mod Code
 pub mod Correct
+pub mod Numbers
+pub mod Lines

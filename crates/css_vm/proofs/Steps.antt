@@ -1,82 +1,156 @@
 -- What a step of the machine does at an instruction.
-use Rattle.std.proofs.Common.{◌≡◌, ℕ, ℤ, suc, ◌+◌, ◌-◌, ◌%◌, ◌<◌, List, [], ◌∷◌, length, Some, slice_get, refl, ◌∙◌, ap, subst, arith, zero-add}
-use Rattle.css_semantics.specs.Dialogue.{Out, Tape, World, Outcome, Goes, Stops, then_do, ask}
+use Rattle.std.proofs.Common.{◌≡◌, ℕ, zero, suc, ◌+◌, ◌-◌, ◌%◌, ◌<◌, ◌≤◌, List, [], ◌∷◌, length, Some, slice_get, IsTrue, nat_eq, false, refl, sym, ◌∙◌, ap, subst, arith, zero-add, if◌then◌else◌}
+use Rattle.std.proofs.Math.Dec.{eqb-suc-zero}
+use Rattle.css_base.specs.declared.ending.Stop.{Stop}
+use Rattle.css_base.specs.declared.ending.Stop.TheVariants as stops
+use Rattle.css_semantics.specs.Dialogue.{Action, Reply, Out, Tape, World, Outcome, Goes, Stops, then_do, ask}
 use Rattle.css_vm.specs.declared.code.Instr.{Instr}
+use Rattle.css_vm.specs.declared.code.Op.{Op}
 use Rattle.css_vm.specs.declared.code.Op.TheVariants as ops
 use Rattle.css_vm.specs.declared.code.Conversion.{Conversion}
 use Rattle.css_vm.specs.declared.code.Conversion.TheVariants as conversions
 use Rattle.css_vm.specs.declared.machine.Event.TheVariants as events
-use Rattle.css_vm.specs.Code.{Routine, cell_of}
-use Rattle.css_vm.specs.Machine.{State, At, Halt, On, effect, at_instr, leaving, ended, exec, go_on}
-use Rattle.css_vm.specs.Soundness.{Spot, GoesOn, IsFine, IsSound}
-use Rattle.css_vm.specs.Events.{Reaches, IfOwed, Moves}
+use Rattle.css_vm.specs.Code.{Routine}
+use Rattle.css_vm.specs.Machine.{State, At, Halt, After, On, effect, at_instr, leaving, ended, exec, go_on}
+use Rattle.css_vm.specs.Soundness.{Spot, Leads, GoesOn, IsFine, IsSound, IsAt, Fits, takes, gives, needs}
+use Rattle.css_vm.specs.Events.{Along, Ran, Does, Reaches, Falls, Leaves, IsStop}
+use Rattle.css_vm.specs.Effects.{goes_on, Performs, Halts}
+use Rattle.css_vm.proofs.Requests.{along_map, along_none}
 
 pub then_assoc : {A B C : Type 0} (o : Outcome A) (f : A → Tape → Outcome B) (g : B → Tape → Outcome C) → then_do (then_do o f) g ≡ then_do o (λ a t. then_do (f a t) g)
 then_assoc (Goes a t) f g = refl
 then_assoc (Stops why t) f g = refl
 
-pub ended_stays : (o : Outcome Halt) (next : State → Tape → Outcome Halt) → then_do (then_do o ended) (go_on next) ≡ o
+ended_stays : (o : Outcome Halt) (next : State → Tape → Outcome Halt) → then_do (then_do o ended) (go_on next) ≡ o
 ended_stays (Goes halt t) next = refl
 ended_stays (Stops why t) next = refl
 
--- a step at an instruction takes its effect
-pub exec_step : (f : Routine) (i : Instr) (base place : ℕ) (stack : List ℕ) → slice_get f.body place ≡ Some i → (w : World) (n : ℕ) (tape : Tape) → exec w f (suc n) (At base place stack) tape ≡ then_do (effect w f i.op i.line base place stack tape) (go_on (exec w f n))
-exec_step f i base place stack at w n tape = ap (λ o. then_do (at_instr w f o base place stack tape) (go_on (exec w f n))) at
+-- a stop ends the whole
+stops_there : {A B : Type 0} (stop : Stop) (line : ℕ) (o : Outcome A) (go : A → Tape → Outcome B) (tape : Tape) → IsStop stop line o tape → IsStop stop line (then_do o go) tape
+stops_there (stops.Fault kind) line o go tape e = ap (λ o. then_do o go) e
+stops_there (stops.Rule rule) line o go tape e = (e.0, (e.1.0, ap (λ o. then_do o go) e.1.1))
+
+nat_eq_zero : (n : ℕ) → (n ≡ 0 → ⊥) → nat_eq n 0 ≡ false
+nat_eq_zero zero apart = absurd (apart refl)
+nat_eq_zero (suc n) apart = eqb-suc-zero n
+
+-- ---- a plan at a place
 
 -- at a place of a sound plan stands an instruction that finds its cells
-pub fine_at : (f : Routine) (plan : List Spot) (i : Instr) (place : ℕ) (spot : Spot) → IsSound f plan → slice_get f.body place ≡ Some i → slice_get plan place ≡ Some spot → IsFine plan place spot i.op
+fine_at : (f : Routine) (plan : List Spot) (i : Instr) (place : ℕ) (spot : Spot) → IsSound f plan → slice_get f.body place ≡ Some i → slice_get plan place ≡ Some spot → IsFine plan place spot i.op
 fine_at f plan i place spot sound at here =
     let each = sound.each place spot here in
     let same : each.0 ≡ i = cc in
     subst (λ (j : Instr). IsFine plan place spot j.op) same each.2
 
--- where the code goes on, the plan has the next place with this height and a lower rank
-pub next_place : (plan : List Spot) (place rank height next-height : ℕ) → GoesOn plan place (record { height = height; rank = rank }) next-height → (next : ℕ) × (next < rank) × (slice_get plan (place + 1) ≡ Some (record { height = next-height; rank = next }))
-next_place plan place rank height next-height goes =
-    (goes.0.rank, goes.3, goes.1 ∙ ap (λ h. let spot : Spot = record { height = h; rank = goes.0.rank } in Some spot) goes.2)
+pub finds_at : (f : Routine) (i : Instr) (base place : ℕ) (stack : List ℕ) → slice_get f.body place ≡ Some i → Fits f (At base place stack) → needs i.op ≤ length stack
+finds_at f i base place stack at fits =
+    (fine_at f fits.0 i place (record { height = length stack; rank = fits.2.0 }) fits.1 at fits.2.1).finds
 
--- a step that only changes the stack and moves to the next place
-pub moves_on : (f : Routine) (i : Instr) (base place : ℕ) (old new : List ℕ) → slice_get f.body place ≡ Some i → ((w : World) (tape : Tape) → effect w f i.op i.line base place old tape ≡ Goes (On (At base (place + 1) new)) tape) → ((plan : List Spot) (rank : ℕ) → let spot : Spot = record { height = length old; rank = rank } in IsFine plan place spot i.op → GoesOn plan place spot (length new)) → Moves f (At base place old) (At base (place + 1) new)
-moves_on f i base place old new at does fine = record {
-  same = λ w n tape. exec_step f i base place old at w n tape ∙ ap (λ o. then_do o (go_on (exec w f n))) (does w tape);
-  falls = λ plan rank sound here.
-      next_place plan place rank (length old) (length new) (fine plan rank (fine_at f plan i place (record { height = length old; rank = rank }) sound at here));
-  same_frame = refl;
-}
+leads_on : (plan : List Spot) (place : ℕ) (spot : Spot) (op : Op) → IsTrue (goes_on op) → GoesOn plan place spot op → Leads plan (place + 1) spot (spot.height - takes op + gives op)
+leads_on plan place spot (ops.Jump to) h goes = absurd (cc)
+leads_on plan place spot (ops.Jumpz to) h goes = absurd (cc)
+leads_on plan place spot (ops.Out c) h goes = absurd (cc)
+leads_on plan place spot ops.Ret h goes = absurd (cc)
+leads_on plan place spot _ h goes = goes
 
-pub moves_push : (f : Routine) (i : Instr) (v : ℤ) (base place : ℕ) (stack : List ℕ) → slice_get f.body place ≡ Some i → i.op ≡ ops.Push v → Moves f (At base place stack) (At base (place + 1) (cell_of v ∷ stack))
-moves_push f i v base place stack at op =
-    moves_on f i base place stack (cell_of v ∷ stack) at
-    (λ w tape. rw op)
-    (λ plan rank fine.
-    let goes = rw op at fine in
-    let height : length stack + 1 ≡ length (cell_of v ∷ stack) = omega arith in
-    let spot : Spot = record { height = length stack; rank = rank } in
-    subst (GoesOn plan place spot) height goes)
+-- a place where the plan has this height and a lower rank
+next_at : (plan : List Spot) (to rank height next-height : ℕ) → Leads plan to (record { height = height; rank = rank }) next-height → (next : ℕ) × (next < rank) × (slice_get plan to ≡ Some (record { height = next-height; rank = next }))
+next_at plan to rank height next-height leads =
+    (leads.0.rank, leads.3, leads.1 ∙ ap (λ h. let spot : Spot = record { height = h; rank = leads.0.rank } in Some spot) leads.2)
 
-pub moves_drop : (f : Routine) (i : Instr) (base place cell : ℕ) (rest : List ℕ) → slice_get f.body place ≡ Some i → i.op ≡ ops.Drop → Moves f (At base place (cell ∷ rest)) (At base (place + 1) rest)
-moves_drop f i base place cell rest at op =
-    moves_on f i base place (cell ∷ rest) rest at
-    (λ w tape. rw op)
-    (λ plan rank fine.
-    let goes = rw op at fine in
-    let height : length (cell ∷ rest) - 1 ≡ length rest = omega arith in
-    let spot : Spot = record { height = length (cell ∷ rest); rank = rank } in
-    subst (GoesOn plan place spot) height goes.1)
+-- ---- steps
 
-pub reaches_out : (f : Routine) (i : Instr) (conversion : Conversion) (base place cell : ℕ) (rest : List ℕ) → slice_get f.body place ≡ Some i → i.op ≡ ops.Out conversion → Reaches f (At base place (cell ∷ rest)) (events.Out (cell % 256 ∷ [])) (At base (place + 1) (cell ∷ rest))
-reaches_out f i conversions.Char base place cell rest at op =
-    (0, i.line, λ w n tape. rw (zero-add, exec_step f i base place (cell ∷ rest) at w n tape, op) (then_assoc (ask w (Out (cell % 256 ∷ [])) i.line tape) _ (go_on (exec w f n))))
+module _ (f : Routine) (i : Instr) (base place : ℕ) (at : slice_get f.body place ≡ Some i) where
+  -- a step at an instruction takes its effect
+  exec_step : (stack : List ℕ) (w : World) (n : ℕ) (tape : Tape) → exec w f (suc n) (At base place stack) tape ≡ then_do (effect w f i.line base place i.op stack tape) (go_on (exec w f n))
+  exec_step stack w n tape = ap (λ o. then_do (at_instr w f o base place stack tape) (go_on (exec w f n))) at
 
-pub owed_out : (f : Routine) (i : Instr) (conversion : Conversion) (base place cell : ℕ) (rest : List ℕ) → slice_get f.body place ≡ Some i → i.op ≡ ops.Out conversion → IfOwed f (At base place (cell ∷ rest)) (events.Out (cell % 256 ∷ [])) (At base (place + 1) (cell ∷ rest))
-owed_out f i conversions.Char base place cell rest at op = (
-  tt,
-  refl,
-  λ plan rank sound here.
-      let fine = rw op at (fine_at f plan i place (record { height = length (cell ∷ rest); rank = rank }) sound at here) in
-      next_place plan place rank (length (cell ∷ rest)) (length (cell ∷ rest)) fine.1,
-)
+  -- where the plan leads on, the rank falls
+  falls_to : (old : List ℕ) (to : ℕ) (new : List ℕ) → ((plan : List Spot) (spot : Spot) → spot.height ≡ length old → IsFine plan place spot i.op → Leads plan to spot (length new)) → Falls f (At base place old) (At base to new)
+  falls_to old to new leads = λ plan rank sound here.
+      let spot : Spot = record { height = length old; rank = rank } in
+      next_at plan to rank (length old) (length new) (leads plan spot refl (fine_at f plan i place spot sound at here))
 
-pub reaches_ret : (f : Routine) (i : Instr) (base place cell : ℕ) (rest : List ℕ) → slice_get f.body place ≡ Some i → i.op ≡ ops.Ret → Reaches f (At base place (cell ∷ rest)) (events.Ended cell i.line) (At base place (cell ∷ rest))
-reaches_ret f i base place cell rest at op =
-    (0, λ w n tape. rw (zero-add, exec_step f i base place (cell ∷ rest) at w n tape, op) (ended_stays (leaving w f.frame base cell i.line tape) (exec w f n)))
+  module _ {S : Type 0} (reply : S → Action → Reply) (learn : S → Action → S) where
+    ran_to : (old : List ℕ) (to : ℕ) (new : List ℕ) (space space' : S) → Along reply learn space space' (λ w tape later. effect w f i.line base place i.op old tape ≡ Goes (On (At base to new)) later)
+        → ((plan : List Spot) (spot : Spot) → spot.height ≡ length old → IsFine plan place spot i.op → Leads plan to spot (length new)) → Ran reply learn f (At base place old) space 1 (At base to new) space'
+    ran_to old to new space space' does leads = record {
+      goes = along_map reply learn
+          (λ w tape later e n.
+          let one : 1 + n ≡ suc n = omega arith in
+          rw one (exec_step old w n tape ∙ ap (λ o. then_do o (go_on (exec w f n))) e))
+          does;
+      falls = λ plan rank sound here.
+          let there = falls_to old to new leads plan rank sound here in
+          (there.0, omega (arith, there.1), there.2);
+    }
+
+    -- an instruction that goes on at the next place
+    pub ran_performs : (old new : List ℕ) (space space' : S) → IsTrue (goes_on i.op) → Performs reply learn i.op base old space new space' → Ran reply learn f (At base place old) space 1 (At base (place + 1) new) space'
+    ran_performs old new space space' on performs =
+        ran_to old (place + 1) new space space' (performs.does f i.line place)
+        (λ plan spot height fine.
+        let same : spot.height - takes i.op + gives i.op ≡ length new = ap (λ h. h - takes i.op + gives i.op) height ∙ sym performs.height in
+        subst (Leads plan (place + 1) spot) same (leads_on plan place spot i.op on fine.goes_on))
+
+    pub ran_jump : (to : ℕ) (stack : List ℕ) (space : S) → i.op ≡ ops.Jump to → Ran reply learn f (At base place stack) space 1 (At base to stack) space
+    ran_jump to stack space op =
+        ran_to stack to stack space space
+        (along_none reply learn space (λ w tape later. effect w f i.line base place i.op stack tape ≡ Goes (On (At base to stack)) later) (λ w tape. rw op))
+        (λ plan spot height fine. subst (Leads plan to spot) height (rw op at fine.goes_on))
+
+    module _ (to cell : ℕ) (rest : List ℕ) (space : S) (op : i.op ≡ ops.Jumpz to) where
+      pub ran_jumpz_taken : cell ≡ 0 → Ran reply learn f (At base place (cell ∷ rest)) space 1 (At base to rest) space
+      ran_jumpz_taken is =
+          ran_to (cell ∷ rest) to rest space space
+          (along_none reply learn space (λ w tape later. effect w f i.line base place i.op (cell ∷ rest) tape ≡ Goes (On (At base to rest)) later) (λ w tape. rw (op, is)))
+          (λ plan spot height fine.
+          let below : spot.height - 1 ≡ length rest = omega arith in
+          let leads = rw op at fine.goes_on in
+          subst (Leads plan to spot) below leads.0)
+
+      pub ran_jumpz_passed : (cell ≡ 0 → ⊥) → Ran reply learn f (At base place (cell ∷ rest)) space 1 (At base (place + 1) rest) space
+      ran_jumpz_passed apart =
+          let is = nat_eq_zero cell apart in
+          ran_to (cell ∷ rest) (place + 1) rest space space
+          (along_none reply learn space (λ w tape later. effect w f i.line base place i.op (cell ∷ rest) tape ≡ Goes (On (At base (place + 1) rest)) later) (λ w tape. rw (op, is)))
+          (λ plan spot height fine.
+          let below : spot.height - 1 ≡ length rest = omega arith in
+          let leads = rw op at fine.goes_on in
+          subst (Leads plan (place + 1) spot) below leads.1)
+
+    -- ---- events
+
+    pub reaches_stop : (old : List ℕ) (space space' : S) (stop : Stop) (new : State) → Halts reply learn i.op base old space stop space' → Reaches reply learn f (At base place old) space (events.Stopped stop i.line) new space'
+    reaches_stop old space space' stop new halts = record {
+      does = along_map reply learn
+          (λ w tape later there. (
+            0,
+            λ n.
+                rw (zero-add, exec_step old w n tape)
+                (stops_there stop i.line (effect w f i.line base place i.op old tape) (go_on (exec w f n)) later there),
+          ))
+          (halts.stops f i.line place);
+    }
+
+    pub reaches_out : (conversion : Conversion) (cell : ℕ) (rest : List ℕ) (space : S) → i.op ≡ ops.Out conversion → Reaches reply learn f (At base place (cell ∷ rest)) space (events.Out (cell % 256 ∷ [])) (At base (place + 1) (cell ∷ rest)) space
+    reaches_out conversions.Char cell rest space op = record {
+      does = along_none reply learn space (λ w tape later. Does w f (At base place (cell ∷ rest)) (events.Out (cell % 256 ∷ [])) (At base (place + 1) (cell ∷ rest)) tape later)
+          (λ w tape. (0, i.line, λ n. rw (zero-add, exec_step (cell ∷ rest) w n tape, op) (then_assoc (ask w (Out (cell % 256 ∷ [])) i.line tape) _ (go_on (exec w f n)))));
+    }
+
+    pub reaches_ret : (cell : ℕ) (rest : List ℕ) (space : S) → i.op ≡ ops.Ret → Reaches reply learn f (At base place (cell ∷ rest)) space (events.Ended cell i.line) (At base (place + 1) (cell ∷ rest)) space
+    reaches_ret cell rest space op = record {
+      does = along_none reply learn space (λ w tape later. Does w f (At base place (cell ∷ rest)) (events.Ended cell i.line) (At base (place + 1) (cell ∷ rest)) tape later)
+          (λ w tape. (0, λ n. rw (zero-add, exec_step (cell ∷ rest) w n tape, op) (ended_stays (leaving w f.frame base cell i.line tape) (exec w f n))));
+    }
+
+  pub leaves_out : (conversion : Conversion) (cell : ℕ) (rest : List ℕ) → i.op ≡ ops.Out conversion → Leaves f (At base place (cell ∷ rest)) (events.Out (cell % 256 ∷ [])) (At base (place + 1) (cell ∷ rest))
+  leaves_out conversions.Char cell rest op = (
+    tt,
+    falls_to (cell ∷ rest) (place + 1) (cell ∷ rest)
+        (λ plan spot height fine.
+        let same : spot.height - 1 + 1 ≡ length (cell ∷ rest) = omega arith in
+        subst (Leads plan (place + 1) spot) same (rw op at fine.goes_on)),
+  )

@@ -1,6 +1,5 @@
 -- Functions as the machine's definitions see them.
-use Rattle.std.specs.Prelude.{ℕ, ℤ, ◌%◌, ◌^◌, List, [], ◌∷◌}
-use Rattle.std.specs.Int.{cast_unsigned, cast_signed, w32, w64}
+use Rattle.std.specs.Prelude.{ℕ, List, [], ◌∷◌}
 use Rattle.css_vm.specs.declared.code as code
 use Rattle.css_vm.specs.declared.code.Instr.{Instr}
 
@@ -16,11 +15,3 @@ routine f = record { frame = f.frame; body = f.body.items }
 abbrev pub first_line : List Instr → ℕ
 first_line [] = 0
 first_line (i ∷ is) = i.line
-
--- a number as a cell of 64 bits
-abbrev pub cell_of : ℤ → ℕ
-cell_of v = cast_unsigned w64 v
-
--- a cell as an int of 32 bits
-abbrev pub int_of : ℕ → ℤ
-int_of a = cast_signed w32 (a % 2 ^ 32)

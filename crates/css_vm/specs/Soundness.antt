@@ -1,5 +1,5 @@
 -- Code that is never stuck, and whose runs end: each place has a stack height and a rank.
-use Rattle.std.specs.Prelude.{◌≡◌, ℕ, ◌+◌, ◌-◌, ◌<◌, ◌≤◌, List, length, Some, slice_get}
+use Rattle.std.specs.Prelude.{◌≡◌, ℕ, ◌+◌, ◌-◌, ◌<◌, ◌≤◌, List, length, Option, Some, None, slice_get}
 use Rattle.css_vm.specs.declared.code.Instr.{Instr}
 use Rattle.css_vm.specs.declared.code.Op.{Op}
 use Rattle.css_vm.specs.declared.code.Op.TheVariants as ops
@@ -11,16 +11,49 @@ pub record Spot : Type 0 where
   pub height : ℕ
   pub rank : ℕ
 
--- the next place has this height, and a lower rank
-abbrev pub GoesOn : List Spot → ℕ → Spot → ℕ → Type 0
-GoesOn plan place spot height = (next : Spot) × (slice_get plan (place + 1) ≡ Some next) × (next.height ≡ height) × (next.rank < spot.rank)
+-- a place has this height, and a lower rank
+abbrev pub Leads : List Spot → ℕ → Spot → ℕ → Type 0
+Leads plan place spot height = (next : Spot) × (slice_get plan place ≡ Some next) × (next.height ≡ height) × (next.rank < spot.rank)
+
+-- the cells that an instruction takes, and those that it gives; `dup` takes none, but the cell that it copies has to be there
+abbrev pub takes : Op → ℕ
+takes (ops.Push v) = 0
+takes (ops.Dup n) = 0
+takes (ops.Frame k) = 0
+takes (ops.Jump to) = 0
+takes ops.Drop = 1
+takes ops.Load32s = 1
+takes ops.Neg = 1
+takes ops.Not = 1
+takes (ops.Conv t) = 1
+takes (ops.Jumpz to) = 1
+takes (ops.Out c) = 1
+takes ops.Ret = 1
+takes _ = 2
+
+abbrev pub gives : Op → ℕ
+gives ops.Drop = 0
+gives (ops.Jump to) = 0
+gives (ops.Jumpz to) = 0
+gives ops.Ret = 0
+gives ops.Swap = 2
+gives _ = 1
+
+abbrev pub needs : Op → ℕ
+needs (ops.Dup n) = n + 1
+needs op = takes op
+
+-- an instruction's places to go have the height that it leaves
+abbrev pub GoesOn : List Spot → ℕ → Spot → Op → Type 0
+GoesOn plan place spot ops.Ret = Unit {0}
+GoesOn plan place spot (ops.Jump to) = Leads plan to spot spot.height
+GoesOn plan place spot (ops.Jumpz to) = Leads plan to spot (spot.height - 1) × Leads plan (place + 1) spot (spot.height - 1)
+GoesOn plan place spot op = Leads plan (place + 1) spot (spot.height - takes op + gives op)
 
 -- an instruction finds its cells, and leads on as the plan says
-abbrev pub IsFine : List Spot → ℕ → Spot → Op → Type 0
-IsFine plan place spot (ops.Push v) = GoesOn plan place spot (spot.height + 1)
-IsFine plan place spot ops.Drop = (1 ≤ spot.height) × GoesOn plan place spot (spot.height - 1)
-IsFine plan place spot (ops.Out c) = (1 ≤ spot.height) × GoesOn plan place spot spot.height
-IsFine plan place spot ops.Ret = 1 ≤ spot.height
+pub record IsFine (plan : List Spot) (place : ℕ) (spot : Spot) (op : Op) : Type 0 where
+  pub finds : needs op ≤ spot.height
+  pub goes_on : GoesOn plan place spot op
 
 -- a plan by which no step takes a missing cell or leaves the body, and the rank falls at each step
 pub record IsSound (f : Routine) (plan : List Spot) : Type 0 where
@@ -28,11 +61,11 @@ pub record IsSound (f : Routine) (plan : List Spot) : Type 0 where
   pub each : (place : ℕ) (spot : Spot) → slice_get plan place ≡ Some spot →
       (i : Instr) × (slice_get f.body place ≡ Some i) × IsFine plan place spot i.op × (spot.rank ≤ length f.body)
 
--- the state is inside, at a place with the height and this rank by the plan
-abbrev pub IsAt : List Spot → ℕ → State → Type 0
-IsAt plan rank Begin = ⊥
-IsAt plan rank (At base place stack) = slice_get plan place ≡ Some (record { height = length stack; rank = rank })
+-- The state is before the entry with a rank above all places', or inside at a place with the height and this rank by the plan.
+abbrev pub IsAt : Routine → List Spot → ℕ → State → Type 0
+IsAt f plan rank Begin = rank ≡ length f.body + 1
+IsAt f plan rank (At base place stack) = slice_get plan place ≡ Some (record { height = length stack; rank = rank })
 
 -- the code is sound, and the state is at a place of the plan
 abbrev pub Fits : Routine → State → Type 0
-Fits f s = (plan : List Spot) × IsSound f plan × ((rank : ℕ) × IsAt plan rank s)
+Fits f s = (plan : List Spot) × IsSound f plan × ((rank : ℕ) × IsAt f plan rank s)

@@ -1,12 +1,16 @@
 //! The stack machine: its instructions and its runs.
 #![tactic(auto)]
 
+mod activation;
+mod cells;
 mod code;
 mod machine;
+mod operations;
 mod printed;
-#[cfg(test)]
-mod tests;
+mod space;
+mod stack;
 
-pub use code::{Conversion, Function, Instr, Op};
+pub use code::{Conversion, Function, Instr, Narrow, Op, ShiftWidth};
 pub use machine::{Event, Machine};
 pub use printed::Printed;
+pub use space::{Space, Width};

@@ -6,7 +6,7 @@ use Rattle.cssrun.specs.Request.{Asks, AreRefused}
 use Rattle.cssrun.specs.Answer.{Answer, IsTextAnswer, Refused, Ended, IsAnswer, WordsRefused, Asked, words_refused, read_fault}
 use Rattle.cssrun.specs.Ends.{Change, HasFailed, Got, GotPrefix, Whole, Cut, Starved, Finishes, Written, CutLine, IsText, ShelfFailed, PlainEnds, Answered, Unread, IsWhole, IsCutShort, IsStarved, IsSmooth}
 use Rattle.cssrun.proofs.OneAnswer.{answer_status, text_answer_status, is_built}
-use Rattle.cssrun.proofs.Runs.{run_answer_status}
+use Rattle.cssrun.proofs.Runs.{IsRunStatus, run_answer_status}
 
 -- a line that is written whole with a status other than 7
 pub written : (c : Change) (line : List ℕ) (status result : ℕ) → result ≡ status → status < 7 → Finishes c line status result → Got c line
@@ -18,17 +18,26 @@ pub line_cut : (c : Change) (line : List ℕ) (status result : ℕ) → result �
 line_cut c line status result is below (Written same got) = absurd (omega arith)
 line_cut c line status result is below (CutLine same failed got) = (failed, got)
 
+not_two : (status : ℕ) → (status ≡ 3) ⊎ IsRunStatus status → status ≡ 2 → ⊥
+not_two status (inl three) two = omega arith
+not_two status (inr (inl low)) two = omega arith
+not_two status (inr (inr high)) two = omega (arith, high.0)
+
+not_three : (status : ℕ) → IsRunStatus status → status ≡ 3 → ⊥
+not_three status (inl low) three = omega arith
+not_three status (inr high) three = omega (arith, high.0)
+
 -- an answer with status 2 is that to words that are refused
 refused_answer : (words : List (List ℕ)) (text : List ℕ) (a : Answer) → IsAnswer words text a → a.status ≡ 2 → AreRefused words × (a.report ≡ words_refused)
 refused_answer words text a (WordsRefused refused is) two = (refused, ap (λ (x : Answer). x.report) is)
 refused_answer words text a (Asked file asks answer) two =
-    elim (text_answer_status text a answer) [ inl three ↦ absurd (omega arith) | inr low ↦ absurd (omega arith) ]
+    absurd (not_two a.status (text_answer_status text a answer) two)
 
 -- an answer with status 3 is that to a text that isn't of the part that is built
 not_built_answer : (words : List (List ℕ)) (text : List ℕ) (a : Answer) → IsAnswer words text a → a.status ≡ 3 → IsNotBuilt text
 not_built_answer words text a (WordsRefused refused is) three = absurd (let two : a.status ≡ 2 = ap (λ (x : Answer). x.status) is in omega arith)
 not_built_answer words text a (Asked file asks (Refused not is)) three = not
-not_built_answer words text a (Asked file asks (Ended p short spells run)) three = absurd (omega (arith, run_answer_status p a run))
+not_built_answer words text a (Asked file asks (Ended p short spells run)) three = absurd (not_three a.status (run_answer_status p a run) three)
 
 -- a text that isn't of the part that is built is answered with status 3
 not_built_status : (words : List (List ℕ)) (file text : List ℕ) (a : Answer) → Asks words file → IsNotBuilt text → IsAnswer words text a → a.status ≡ 3

@@ -1,9 +1,10 @@
 pub mod Exec
 pub mod Sinks
+pub mod Flat
 pub mod Turns
 pub mod Programs
 pub mod Words
-pub mod Ints
+pub mod Numbers
 pub mod Endings
 pub mod Runs
 pub mod OneAnswer

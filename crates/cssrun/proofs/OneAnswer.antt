@@ -5,8 +5,8 @@ use Rattle.css_small.specs.Tree.{Program}
 use Rattle.css_small.specs.Grammar.{Spells, IsNotBuilt}
 use Rattle.cssrun.specs.Request.{Asks}
 use Rattle.cssrun.specs.Answer.{Answer, IsRunAnswer, IsTextAnswer, Refused, Ended, IsAnswer, WordsRefused, Asked, static_line, memory}
-use Rattle.cssrun.proofs.Programs.{source_goes}
-use Rattle.cssrun.proofs.Runs.{run_answer_is, run_answer_status}
+use Rattle.cssrun.proofs.Programs.{source_ends}
+use Rattle.cssrun.proofs.Runs.{run_answer_is, IsRunStatus, run_answer_status}
 
 -- what a text that isn't of the part that is built answers
 abbrev pub not_built : Answer
@@ -38,8 +38,8 @@ run_answer_of only text p short spells a (Ended q short' spells' run) = subst (�
 one_text_answer : OnlyOneProgram → (text : List ℕ) (a b : Answer) → IsTextAnswer text a → IsTextAnswer text b → a ≡ b
 one_text_answer only text a b (Refused not is) other = is ∙ sym (not_built_is text not b other)
 one_text_answer only text a b (Ended p short spells run) other =
-    let goes = source_goes memory p in
-    run_answer_is p _ goes.0 goes.1 a run ∙ sym (run_answer_is p _ goes.0 goes.1 b (run_answer_of only text p short spells b other))
+    let ends = source_ends memory p in
+    run_answer_is p ends.0 ends.1 a run ∙ sym (run_answer_is p ends.0 ends.1 b (run_answer_of only text p short spells b other))
 
 -- words and a text have at most one answer
 pub one_answer_lem : OnlyOneProgram → (words : List (List ℕ)) (text : List ℕ) (a b : Answer) → IsAnswer words text a → IsAnswer words text b → a ≡ b
@@ -49,11 +49,16 @@ one_answer_lem only words text a b (Asked file asks answer) (WordsRefused refuse
 one_answer_lem only words text a b (Asked file asks answer) (Asked file' asks' answer') = one_text_answer only text a b answer answer'
 
 -- the status of a text's answer
-pub text_answer_status : (text : List ℕ) (a : Answer) → IsTextAnswer text a → (a.status ≡ 3) ⊎ (a.status ≤ 1)
+pub text_answer_status : (text : List ℕ) (a : Answer) → IsTextAnswer text a → (a.status ≡ 3) ⊎ IsRunStatus a.status
 text_answer_status text a (Refused not is) = inl (ap (λ (x : Answer). x.status) is)
 text_answer_status text a (Ended p short spells run) = inr (run_answer_status p a run)
 
+at_most_five : (status : ℕ) → (status ≡ 3) ⊎ IsRunStatus status → status ≤ 5
+at_most_five status (inl three) = omega arith
+at_most_five status (inr (inl low)) = omega arith
+at_most_five status (inr (inr high)) = high.1
+
 -- the status of an answer
-pub answer_status : (words : List (List ℕ)) (text : List ℕ) (a : Answer) → IsAnswer words text a → a.status ≤ 3
+pub answer_status : (words : List (List ℕ)) (text : List ℕ) (a : Answer) → IsAnswer words text a → a.status ≤ 5
 answer_status words text a (WordsRefused refused is) = let e : a.status ≡ 2 = ap (λ (x : Answer). x.status) is in omega arith
-answer_status words text a (Asked file asks answer) = elim (text_answer_status text a answer) [ inl e ↦ omega arith | inr e ↦ omega arith ]
+answer_status words text a (Asked file asks answer) = at_most_five a.status (text_answer_status text a answer)

@@ -1,9 +1,10 @@
 -- What a sink got in several calls.
-use Rattle.std.proofs.Common.{ℕ, ℤ, ◌≤◌, List, [], ◌++◌, Option, Some, None, refl, sym, ap, ◌∙◌, append_assoc}
+use Rattle.std.proofs.Common.{ℕ, ◌≤◌, List, [], ◌++◌, Option, Some, None, refl, sym, ap, ◌∙◌, append_assoc}
 use Rattle.std.proofs.lemmas.List.{append-nil}
 use Rattle.css_io.specs.Outside.{Appends, AppendsPrefix}
 use Rattle.css_io.proofs.Told.{Appends-more}
 use Rattle.css_io.proofs.Faults.{Rose-after}
+use Rattle.css_base.specs.declared.ending.Ending.{Ending}
 use Rattle.cssrun.specs.declared.run.Ran.{Ran}
 use Rattle.cssrun.specs.declared.run.Ran.TheVariants as rans
 use Rattle.cssrun.specs.Ends.{change, Got}
@@ -33,12 +34,12 @@ AppendsPrefix-more before between after bytes more one (front, rest, parts, got)
     (bytes ++ front, rest, ap (λ b. bytes ++ b) parts ∙ sym (append_assoc bytes front rest), Appends-more before between after bytes front one got)
 
 -- the end of a run, after what the sink got before
-pub RanAs-more : {S : Type 0} (written : S → Option (List ℕ)) (faults : S → ℕ) (old between new : S) (result : ℤ) (bytes more : List ℕ) (ran : Ran)
+pub RanAs-more : {S : Type 0} (written : S → Option (List ℕ)) (faults : S → ℕ) (old between new : S) (ending : Ending) (bytes more : List ℕ) (ran : Ran)
     → Got (change written faults old between) bytes → faults old ≤ faults between
-    → RanAs result more (change written faults between new) ran → RanAs result (bytes ++ more) (change written faults old new) ran
-RanAs-more written faults old between new result bytes more (rans.Result r) got rise (is, last) =
+    → RanAs ending more (change written faults between new) ran → RanAs ending (bytes ++ more) (change written faults old new) ran
+RanAs-more written faults old between new ending bytes more (rans.Ended e) got rise (is, last) =
     (is, Appends-more (written old) (written between) (written new) bytes more got last)
-RanAs-more written faults old between new result bytes more rans.WriteFault got rise (failed, last) =
+RanAs-more written faults old between new ending bytes more rans.WriteFault got rise (failed, last) =
     (Rose-after (faults old) (faults between) (faults new) rise failed, AppendsPrefix-more (written old) (written between) (written new) bytes more got last)
-RanAs-more written faults old between new result bytes more rans.NoMemory got rise last =
+RanAs-more written faults old between new ending bytes more rans.NoMemory got rise last =
     AppendsPrefix-more (written old) (written between) (written new) bytes more got last

@@ -1,8 +1,8 @@
--- The answers of a text of which no more than the first bytes past the limit need be there.
+-- The answers of a text of which no more than the first 4,194,305 bytes need be there.
 use Rattle.std.proofs.Common.{◌≡◌, ℕ, ◌<◌, ◌≤◌, ◌⊎◌, inl, inr, List, [], length, take, Option, Some, None, refl, sym, subst, arith}
 use Rattle.std.specs.Prelude.{IfSome}
 use Rattle.std.proofs.lemmas.Bool.{cases_lt}
-use Rattle.std.proofs.lemmas.List.{take_all, length-take}
+use Rattle.std.proofs.lemmas.List.{take_all, length-take-le}
 use Rattle.css_base.specs.declared.static_fault.StaticName.{StaticName}
 use Rattle.css_base.specs.declared.static_fault.StaticName.TheVariants as names
 use Rattle.css_small.specs.Grammar.{IsNotBuilt}
@@ -16,6 +16,18 @@ use Rattle.cssrun.proofs.OneAnswer.{one_file, not_built, not_built_is}
 long_answer : (text other : List ℕ) → 4194304 < length text → 4194304 < length other → (a : Answer) → IsTextAnswer text a → IsTextAnswer other a
 long_answer text other long also a (Refused not is) = Refused (inl also) is
 long_answer text other long also a (Ended p short spells run) = absurd (omega arith)
+
+ends_long : (all : List ℕ) (out report : Change) (status : ℕ) → 4194304 < length all → Ends (IsTextAnswer (take 4194305 all)) out report status → Ends (IsTextAnswer all) out report status
+ends_long all out report status long =
+    let first : 4194304 < length (take 4194305 all) = (let e = length-take-le 4194305 all long in omega arith) in
+    Ends-map (IsTextAnswer (take 4194305 all)) (IsTextAnswer all) out report status (long_answer (take 4194305 all) all first long) (long_answer all (take 4194305 all) long first)
+
+ends_short : (all : List ℕ) (out report : Change) (status : ℕ) → length all ≤ 4194304 → Ends (IsTextAnswer (take 4194305 all)) out report status → Ends (IsTextAnswer all) out report status
+ends_short all out report status short = subst (λ t. Ends (IsTextAnswer t) out report status) (take_all 4194305 all (omega arith))
+
+-- a call that ends as the first bytes of a text ask ends as the text asks
+pub ends_taken : (all : List ℕ) (out report : Change) (status : ℕ) → Ends (IsTextAnswer (take 4194305 all)) out report status → Ends (IsTextAnswer all) out report status
+ends_taken all out report status ends = elim (cases_lt 4194304 (length all)) [ inl long ↦ ends_long all out report status long ends | inr short ↦ ends_short all out report status short ends ]
 
 -- the text of the file that words name is the shelf's
 pub is_text : (words : List (List ℕ)) (told : List ℕ → Option (List ℕ)) (name text : List ℕ) → Asks words name → IfSome (told name) (λ bytes. text ≡ bytes) → IsText words told text
@@ -31,48 +43,34 @@ ends_asked words name text out report status asks =
     text_answer words name text asks a (WordsRefused refused is) = absurd (refused name asks)
     text_answer words name text asks a (Asked file also is) = is
 
--- of a text at least the bytes up to the longest text's length and one more are there
-module _ (limit : ℕ) (enough : 4194304 < limit) where
-  ends_long : (all : List ℕ) (out report : Change) (status : ℕ) → 4194304 < length all → Ends (IsTextAnswer (take limit all)) out report status → Ends (IsTextAnswer all) out report status
-  ends_long all out report status long =
-      let first : 4194304 < length (take limit all) = omega (arith, length-take limit all) in
-      Ends-map (IsTextAnswer (take limit all)) (IsTextAnswer all) out report status (long_answer (take limit all) all first long) (long_answer all (take limit all) long first)
+answered_from : (words : List (List ℕ)) (told : List ℕ → Option (List ℕ)) (before after : List ℕ → ℕ) (out report : Change) (status : ℕ) (name text : List ℕ)
+    → Asks words name → (file : Option (List ℕ)) → told name ≡ file → IfSome file (λ all. text ≡ take 4194305 all)
+    → Ends (IsTextAnswer text) out report status → PlainEnds words told before after out report status
+answered_from words told before after out report status name text asks None same is ends =
+    let P : Option (List ℕ) → Type 0 = λ f. IfSome f (λ bytes. text ≡ bytes) in
+    Answered text (is_text words told name text asks (subst P (sym same) tt)) (ends_asked words name text out report status asks ends)
+answered_from words told before after out report status name text asks (Some all) same is ends =
+    let P : Option (List ℕ) → Type 0 = λ f. IfSome f (λ bytes. all ≡ bytes) in
+    Answered all (is_text words told name all asks (subst P (sym same) refl))
+    (ends_asked words name all out report status asks (ends_taken all out report status (subst (λ t. Ends (IsTextAnswer t) out report status) is ends)))
 
-  ends_short : (all : List ℕ) (out report : Change) (status : ℕ) → length all ≤ 4194304 → Ends (IsTextAnswer (take limit all)) out report status → Ends (IsTextAnswer all) out report status
-  ends_short all out report status short = subst (λ t. Ends (IsTextAnswer t) out report status) (take_all limit all (omega arith))
+-- a call that ends as the bytes that were read ask ends as the words ask
+pub answered : (words : List (List ℕ)) (told : List ℕ → Option (List ℕ)) (before after : List ℕ → ℕ) (out report : Change) (status : ℕ) (name text : List ℕ)
+    → Asks words name → IfSome (told name) (λ all. text ≡ take 4194305 all)
+    → Ends (IsTextAnswer text) out report status → PlainEnds words told before after out report status
+answered words told before after out report status name text asks is ends =
+    answered_from words told before after out report status name text asks (told name) refl is ends
 
-  -- a call that ends as the first bytes of a text ask ends as the text asks
-  pub ends_taken : (all : List ℕ) (out report : Change) (status : ℕ) → Ends (IsTextAnswer (take limit all)) out report status → Ends (IsTextAnswer all) out report status
-  ends_taken all out report status ends = elim (cases_lt 4194304 (length all)) [ inl long ↦ ends_long all out report status long ends | inr short ↦ ends_short all out report status short ends ]
+text_told : (file : Option (List ℕ)) → (text : List ℕ) × IfSome file (λ all. text ≡ take 4194305 all)
+text_told None = ([], tt)
+text_told (Some all) = (take 4194305 all, refl)
 
-  answered_from : (words : List (List ℕ)) (told : List ℕ → Option (List ℕ)) (before after : List ℕ → ℕ) (out report : Change) (status : ℕ) (name text : List ℕ)
-      → Asks words name → (file : Option (List ℕ)) → told name ≡ file → IfSome file (λ all. text ≡ take limit all)
-      → Ends (IsTextAnswer text) out report status → PlainEnds words told before after out report status
-  answered_from words told before after out report status name text asks None same is ends =
-      let P : Option (List ℕ) → Type 0 = λ f. IfSome f (λ bytes. text ≡ bytes) in
-      Answered text (is_text words told name text asks (subst P (sym same) tt)) (ends_asked words name text out report status asks ends)
-  answered_from words told before after out report status name text asks (Some all) same is ends =
-      let P : Option (List ℕ) → Type 0 = λ f. IfSome f (λ bytes. all ≡ bytes) in
-      Answered all (is_text words told name all asks (subst P (sym same) refl))
-      (ends_asked words name all out report status asks (ends_taken all out report status (subst (λ t. Ends (IsTextAnswer t) out report status) is ends)))
-
-  -- a call that ends as the bytes that were read ask ends as the words ask
-  pub answered : (words : List (List ℕ)) (told : List ℕ → Option (List ℕ)) (before after : List ℕ → ℕ) (out report : Change) (status : ℕ) (name text : List ℕ)
-      → Asks words name → IfSome (told name) (λ all. text ≡ take limit all)
-      → Ends (IsTextAnswer text) out report status → PlainEnds words told before after out report status
-  answered words told before after out report status name text asks is ends =
-      answered_from words told before after out report status name text asks (told name) refl is ends
-
-  text_told : (file : Option (List ℕ)) → (text : List ℕ) × IfSome file (λ all. text ≡ take limit all)
-  text_told None = ([], tt)
-  text_told (Some all) = (take limit all, refl)
-
-  -- a call that ends as each text asks ends as the words ask
-  pub answered_any : (words : List (List ℕ)) (told : List ℕ → Option (List ℕ)) (before after : List ℕ → ℕ) (out report : Change) (status : ℕ) (name : List ℕ)
-      → Asks words name → ((text : List ℕ) → Ends (IsTextAnswer text) out report status) → PlainEnds words told before after out report status
-  answered_any words told before after out report status name asks ends =
-      let some = text_told (told name) in
-      answered words told before after out report status name some.0 asks some.1 (ends some.0)
+-- a call that ends as each text asks ends as the words ask
+pub answered_any : (words : List (List ℕ)) (told : List ℕ → Option (List ℕ)) (before after : List ℕ → ℕ) (out report : Change) (status : ℕ) (name : List ℕ)
+    → Asks words name → ((text : List ℕ) → Ends (IsTextAnswer text) out report status) → PlainEnds words told before after out report status
+answered_any words told before after out report status name asks ends =
+    let some = text_told (told name) in
+    answered words told before after out report status name some.0 asks some.1 (ends some.0)
 
 -- a text that isn't of the part that is built is refused, or there is no memory for the line
 pub text_refused : (text : List ℕ) (name : StaticName) (line : ℕ) (out report : Change) (status : ℕ) → name ≡ names.NotBuilt → line ≡ 1 → IsNotBuilt text

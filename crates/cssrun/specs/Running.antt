@@ -1,36 +1,51 @@
 -- A run of main in the flat memory, on its way.
-use Rattle.std.specs.Prelude.{◌≡◌, ◌≤◌, ℕ, ℤ, List, ◌++◌}
-use Rattle.css_semantics.specs.Dialogue.{Tape, Goes, output}
+use Rattle.std.specs.Prelude.{◌≡◌, ◌≤◌, ℕ, ℤ, List, [], ◌++◌, Some}
+use Rattle.css_base.specs.declared.ending.Ending.{Ending}
+use Rattle.css_semantics.specs.Dialogue.{Tape, Outcome, Goes, Stops, output}
+use Rattle.css_semantics.specs.Worlds.{state_after}
+use Rattle.css_semantics.specs.Memory.{Memory, after}
 use Rattle.css_semantics.specs.Flat.{flat}
 use Rattle.css_vm.specs.Code.{Routine}
-use Rattle.css_vm.specs.Machine.{State, Finished, exec, target}
+use Rattle.css_vm.specs.Machine.{State, Halt, Finished, exec, target}
 use Rattle.css_vm.specs.Events.{Falls}
+use Rattle.cssrun.specs.Answer.{ending_of, tape_of}
 use Rattle.cssrun.specs.Ends.{Change, Got}
 use Rattle.cssrun.specs.declared.run.Ran.{Ran}
 use Rattle.cssrun.specs.Ran.{RanAs}
 
--- The run from a state ends with this result and tape, after what the tape so far has written.
-pub record Running (memory : ℕ) (f : Routine) (result : ℤ) (tape : Tape) (state : State) (written : List ℕ) : Type 0 where
+-- a program's outcome as a machine's
+abbrev pub halted : Outcome ℤ → Outcome Halt
+halted (Goes v tape) = Goes (Finished v) tape
+halted (Stops why tape) = Stops why tape
+
+-- The dialogue of the code in the flat memory comes to this outcome.
+abbrev pub ComesTo : ℕ → Routine → Outcome ℤ → Type 0
+ComesTo memory f o = (n : ℕ) × (target (flat memory) f n ≡ halted o)
+
+-- the flat memory before main's entry
+abbrev pub no_frames : ℕ → Memory
+no_frames memory = record { end = memory; stack = [] }
+
+-- The run from a state and with a space comes to this outcome, after what the tape so far has written.
+pub record Running (memory : ℕ) (f : Routine) (o : Outcome ℤ) (state : State) (space : Memory) (written : List ℕ) : Type 0 where
   pub steps : ℕ
   pub so_far : Tape
-  pub goes : exec (flat memory) f steps state so_far ≡ Goes (Finished result) tape
+  pub goes : exec (flat memory) f steps state so_far ≡ halted o
+  pub space_is : state_after after (no_frames memory) so_far ≡ space
   pub written_is : output so_far ≡ written
 
--- The whole run ends with this result and tape.
-abbrev pub Finishes : ℕ → Routine → ℤ → Tape → Type 0
-Finishes memory f result tape = (n : ℕ) × (target (flat memory) f n ≡ Goes (Finished result) tape)
-
--- One turn of the loop: the sink got some bytes, and wherever the run was on its way it still is. The rank falls, and the count
--- of faults doesn't.
-pub record GoesOn (f : Routine) (old new : State) (pending pending' : List ℕ) (c : Change) : Type 0 where
+-- One turn of the loop: the sink got some bytes, and wherever the run was on its way to an ending it still is. The rank falls, and
+-- the count of faults doesn't.
+pub record GoesOn (f : Routine) (old : State) (space : Memory) (new : State) (space' : Memory) (pending pending' : List ℕ) (c : Change) : Type 0 where
   pub front : List ℕ
   pub got : Got c front
-  pub running : (memory : ℕ) (result : ℤ) (tape : Tape) (written : List ℕ) → Running memory f result tape old (written ++ pending)
-      → Running memory f result tape new (written ++ front ++ pending')
+  pub running : (memory : ℕ) (o : Outcome ℤ) (ending : Ending) (written : List ℕ) → ending_of o ≡ Some ending
+      → Running memory f o old space (written ++ pending) → Running memory f o new space' (written ++ front ++ pending')
   pub falls : Falls f old new
   pub never_fell : c.faults_before ≤ c.faults_after
 
--- The last turn: of the output that is left, all with the result, or a prefix.
-abbrev pub EndsRun : Routine → State → List ℕ → Change → Ran → Type 0
-EndsRun f old pending c ran = (memory : ℕ) (result : ℤ) (tape : Tape) (written : List ℕ) → Running memory f result tape old (written ++ pending)
-    → (rest : List ℕ) × (output tape ≡ written ++ rest) × RanAs result rest c ran
+-- The last turn: of the output that is left, all with the ending, or a prefix.
+abbrev pub EndsRun : Routine → State → Memory → List ℕ → Change → Ran → Type 0
+EndsRun f old space pending c ran = (memory : ℕ) (o : Outcome ℤ) (ending : Ending) (written : List ℕ) → ending_of o ≡ Some ending
+    → Running memory f o old space (written ++ pending)
+    → (rest : List ℕ) × (output (tape_of o) ≡ written ++ rest) × RanAs ending rest c ran

@@ -11,6 +11,14 @@ const PUT_A: &str = "int main(void) { putchar(97); return 0; }";
 
 const PUT_A_AND_B: &str = "int main(void) { putchar(97); putchar(98); return 0; }";
 
+const VARIABLES: &str =
+    "int main(void) { int x = 65; int y; y = x + 1; { x = y; { putchar(x); } } putchar(y + 1); return x - 66; }";
+
+const DIVIDES_BY_ZERO: &str = "int main(void) { putchar(97); return 1 / 0; }";
+
+const DIVIDES_IN_LINE_3: &str =
+    "int main(void) {\n  int x = 0; putchar(97);\n  putchar(98 % x);\n  return 0;\n}";
+
 /// The sinks' bytes and the status of a call.
 #[derive(Drop)]
 struct Called {
@@ -83,6 +91,27 @@ fn texts_are_answered(rt: HostRuntime) -> Result<(), Fail> {
         (PUT_A, "a", "result 0\n", 0),
         (PUT_A_AND_B, "ab", "result 0\n", 0),
         ("int main(void) { return 7; }", "", "result 7\n", 1),
+        ("int main(void) { }", "", "result 0\n", 0),
+        (
+            "int main(void) { putchar(353); return -5; }",
+            "a",
+            "result -5\n",
+            1,
+        ),
+        (VARIABLES, "BC", "result 0\n", 0),
+        (DIVIDES_BY_ZERO, "a", "fault DivideByZero line 1 main\n", 4),
+        (
+            DIVIDES_IN_LINE_3,
+            "a",
+            "fault DivideByZero line 3 main\n",
+            4,
+        ),
+        (
+            "int main(void) { return x; }",
+            "",
+            "static S0 NotBuilt line 1\n",
+            3,
+        ),
         (
             "int main(void) { return 0 }",
             "",
@@ -95,6 +124,49 @@ fn texts_are_answered(rt: HostRuntime) -> Result<(), Fail> {
         let words = ["cssrun", "erased", "f.c"];
         let called = call(&rt, &words, ("f.c", text.as_bytes()), &NOTHING_FAILS)?;
         expect(&rt, &called, out, report, status);
+    }
+    Ok(())
+}
+
+/// Each expression is 1. What the C standard leaves open is the profile's: results wrap, and a shift takes its count modulo 32.
+#[test]
+fn expressions_have_values(rt: HostRuntime) -> Result<(), Fail> {
+    let rows = [
+        "2 + 3 * 4 == 14",
+        "10 - 4 - 3 == 3",
+        "(1 | 6 ^ 2 & 3) == 5",
+        "-7 / 2 == -3",
+        "-7 % 2 == -1",
+        "7 % -2 == 1",
+        "!0 == 1",
+        "~0 == -1",
+        "(3 > 2 > 1) == 0",
+        "(2 <= 2) + (3 >= 4) == 1",
+        "(2 && 3) == 1",
+        "(0 || 0) == 0",
+        "(0 && 1 / 0) == 0",
+        "(1 || 1 / 0) == 1",
+        "2147483647 + 1 == -2147483647 - 1",
+        "-2147483647 - 2 == 2147483647",
+        "46341 * 46341 == -2147479015",
+        "-(-2147483647 - 1) == -2147483647 - 1",
+        "(-2147483647 - 1) / -1 == -2147483647 - 1",
+        "(-2147483647 - 1) % -1 == 0",
+        "1 << 31 == -2147483647 - 1",
+        "1 << 32 == 1",
+        "1 << 33 == 2",
+        "1 << -1 == -2147483647 - 1",
+        "-8 >> 31 == -1",
+        "-8 >> 32 == -8",
+        "-8 >> 33 == -4",
+        "-8 >> -1 == -1",
+    ];
+    for row in rows {
+        let text = format!(in rt.alloc(); "int main(void) {{ putchar(48 + ({row})); return 0; }}")?;
+        let words = ["cssrun", "erased", "f.c"];
+        let file = ("f.c", text.as_str().as_bytes());
+        let called = call(&rt, &words, file, &NOTHING_FAILS)?;
+        expect(&rt, &called, "1", "result 0\n", 0);
     }
     Ok(())
 }

@@ -3,7 +3,7 @@ ghost use Rattle.std.specs.Prelude.{◌≡◌, ◌<◌, ◌≤◌, ◌⊎◌, �
 ghost use Rattle.css_io.specs.Outside.{Rose};
 ghost use Rattle.css_small.specs.Tree.{program};
 ghost use Rattle.css_small.specs.Grammar.{Spells, IsNotBuilt};
-ghost use Rattle.css_small_code.specs.Ints.{AreInts};
+ghost use Rattle.css_small_code.specs.Numbers.{HasNumbers};
 ghost use Rattle.cssrun.specs.Answer.{Answer, IsAnswer, IsTextAnswer, IsRunAnswer, words_refused, read_fault, no_memory, static_line, ending_line, ending_status};
 ghost use Rattle.cssrun.specs.Request.{Asks, AreRefused};
 ghost use Rattle.cssrun.specs.Ends.{Change, change, HasFailed, Got, Ends, Finishes, IsText, IsWhole, IsCutShort, IsStarved, IsSmooth, ShelfFailed, PlainEnds};
@@ -32,8 +32,8 @@ const NO_MEMORY_STATUS: u8 = 8;
 
 /// The whole program but for the commands that wait: reads the words, then the file that they name, then runs its main with the
 /// pragmas erased. What main prints goes to `out`, and how it ended to `report`. The status is 0 at the result 0, 1 at another
-/// result, 2 where the words are refused, 3 where the text breaks a static rule, 6 where the file can't be read, 7 where a sink
-/// failed, and 8 where there was no memory. Always returns.
+/// result, 2 where the words are refused, 3 where the text breaks a static rule, 4 where main is at fault, 5 where it breaks a rule of
+/// the run, 6 where the file can't be read, 7 where a sink failed, and 8 where there was no memory. Always returns.
 pub fn plain_top<S: Shelf, I: Source, O: Sink, R: Sink>(
     alloc: Global,
     words: &Words,
@@ -152,14 +152,14 @@ fn refuse<R: Sink>(alloc: Global, fault: &StaticFault, report: &mut R) -> u8
 
 // Compiles a program and runs it.
 fn run_program<O: Sink, R: Sink>(alloc: Global, tree: &Program, out: &mut O, report: &mut R) -> u8
-    requires { AreInts (program tree.now) }
+    requires { HasNumbers (program tree.now) }
     ensures { Ends (IsRunAnswer (program tree.now)) (change O.written O.faults out.old out.new) (change R.written R.faults report.old report.new) result }
 {
     let Ok(code) = make_code(alloc, tree) else {
         return finish(report, NO_MEMORY, NO_MEMORY_STATUS);
     };
     match run_main(alloc, &code, Limits::DEFAULT.memory, out) {
-        Ran::Result(result) => end(alloc, &Ending::Result(result), report),
+        Ran::Ended(ending) => end(alloc, &ending, report),
         Ran::WriteFault => WRITE_FAULT_STATUS,
         Ran::NoMemory => finish(report, NO_MEMORY, NO_MEMORY_STATUS),
     }

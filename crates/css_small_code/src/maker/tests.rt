@@ -1,27 +1,252 @@
 //! Programs whose code is written out by hand.
-ghost use Rattle.std.specs.Prelude.{◌≡◌, ◌≤◌};
-ghost use Rattle.css_small.specs.Tree.{program};
-ghost use Rattle.css_small_code.specs.Ints.{AreInts};
+ghost use Rattle.std.specs.Prelude.{◌≡◌, ◌≤◌, ◌<◌, IfOk};
+ghost use Rattle.css_small.specs.Tree.{expression, statement, listed, program};
+ghost use Rattle.css_small_code.specs.Numbers.{IsWithin, AreWithin, AllWithin, HasNumbers};
 
 use super::make_code;
 use css_base::Line;
-use css_small::{Program, Statement};
-use css_vm::{Conversion, Op};
-use std::alloc::Global;
+use css_num::{BinOp, UnOp};
+use css_small::{Expression, Program, Statement};
+use css_vm::{Conversion, Narrow, Op};
+use std::alloc::{AllocError, Global};
 use std::process::Abort;
 use std::test::Fail;
 
+const AS_INT: Op = Op::Conv(Narrow::S32);
+
 const WRITE: Op = Op::Out(Conversion::Char);
 
-fn statement_of(number: u32, line: u32) -> Statement
-    requires { 1 ≤ line }
-    ensures { (result.number ≡ number) × (result.line ≡ line) }
+fn number(value: u32) -> Expression
+    requires { value ≤ 2147483647 }
+    ensures { IsWithin 2 (expression result) }
 {
-    Statement {
-        number,
+    Expression::Number(value)
+}
+
+fn variable(k: u32) -> Expression
+    requires { k < 2 }
+    ensures { IsWithin 2 (expression result) }
+{
+    Expression::Variable(k)
+}
+
+fn unary(alloc: Global, op: UnOp, operand: Expression) -> Result<Expression, AllocError>
+    requires { IsWithin 2 (expression operand) }
+    ensures { IfOk result (λ e. IsWithin 2 (expression e)) }
+{
+    Ok(Expression::Unary(op, Box::new(alloc, operand)?))
+}
+
+fn binary(
+    alloc: Global,
+    op: BinOp,
+    left: Expression,
+    right: Expression,
+) -> Result<Expression, AllocError>
+    requires first { IsWithin 2 (expression left) }
+    requires second { IsWithin 2 (expression right) }
+    ensures { IfOk result (λ e. IsWithin 2 (expression e)) }
+{
+    Ok(Expression::Binary(op, Box::new(alloc, left)?, Box::new(alloc, right)?))
+}
+
+fn and(alloc: Global, left: Expression, right: Expression) -> Result<Expression, AllocError>
+    requires first { IsWithin 2 (expression left) }
+    requires second { IsWithin 2 (expression right) }
+    ensures { IfOk result (λ e. IsWithin 2 (expression e)) }
+{
+    Ok(Expression::And(Box::new(alloc, left)?, Box::new(alloc, right)?))
+}
+
+fn or(alloc: Global, left: Expression, right: Expression) -> Result<Expression, AllocError>
+    requires first { IsWithin 2 (expression left) }
+    requires second { IsWithin 2 (expression right) }
+    ensures { IfOk result (λ e. IsWithin 2 (expression e)) }
+{
+    Ok(Expression::Or(Box::new(alloc, left)?, Box::new(alloc, right)?))
+}
+
+fn block_of(line: u32, statements: Vec<Statement>) -> Statement
+    requires starts { 1 ≤ line }
+    requires known { AllWithin 2 (listed statements.items) }
+    ensures { AreWithin 2 (statement result) }
+{
+    Statement::Block {
         line: Line::new(line),
+        statements,
     }
 }
+
+// Main with two variables, from a line to a line.
+fn main_of(line: u32, end: u32, body: Vec<Statement>) -> Program
+    requires starts { 1 ≤ line }
+    requires ends { 1 ≤ end }
+    requires known { AllWithin 2 (listed body.items) }
+    ensures { HasNumbers (program result) }
+{
+    Program {
+        line: Line::new(line),
+        end: Line::new(end),
+        variables: 2,
+        body,
+    }
+}
+
+// int main(void) {
+//     int x = -5, y;
+//     y = x - 2;
+//     return y;
+// }
+fn assigning(alloc: Global) -> Result<Program, AllocError>
+    ensures { IfOk result (λ p. HasNumbers (program p)) }
+{
+    let first = Statement::Initialise {
+        line: Line::new(2),
+        variable: 0,
+        value: unary(alloc, UnOp::Minus, number(5))?,
+    };
+    let second = Statement::Declare {
+        line: Line::new(2),
+        variable: 1,
+    };
+    let third = Statement::Assign {
+        line: Line::new(3),
+        variable: 1,
+        value: binary(alloc, BinOp::Sub, variable(0), number(2))?,
+    };
+    let fourth = Statement::Return {
+        line: Line::new(4),
+        value: variable(1),
+    };
+    let body = vec![in alloc; first, second, third, fourth]?;
+    Ok(main_of(1, 5, body))
+}
+
+const ASSIGNING: &[(u32, Op)] = &[
+    (1, Op::Push(0)),
+    (1, Op::Drop),
+    (2, Op::Frame(0)),
+    (2, Op::Push(5)),
+    (2, Op::Neg),
+    (2, AS_INT),
+    (2, Op::Store32),
+    (2, Op::Drop),
+    (3, Op::Frame(8)),
+    (3, Op::Frame(0)),
+    (3, Op::Load32s),
+    (3, Op::Push(2)),
+    (3, Op::Sub),
+    (3, AS_INT),
+    (3, Op::Store32),
+    (3, Op::Drop),
+    (4, Op::Frame(8)),
+    (4, Op::Load32s),
+    (4, Op::Ret),
+    (5, Op::Push(0)),
+    (5, Op::Ret),
+];
+
+// in line 3: int main(void) { int x, y; ; return y && 7; }
+fn with_and(alloc: Global) -> Result<Program, AllocError>
+    ensures { IfOk result (λ p. HasNumbers (program p)) }
+{
+    let first = Statement::Empty { line: Line::new(3) };
+    let second = Statement::Return {
+        line: Line::new(3),
+        value: and(alloc, variable(1), number(7))?,
+    };
+    let body = vec![in alloc; first, second]?;
+    Ok(main_of(3, 3, body))
+}
+
+const WITH_AND: &[(u32, Op)] = &[
+    (3, Op::Frame(8)),
+    (3, Op::Load32s),
+    (3, Op::Jumpz(7)),
+    (3, Op::Push(7)),
+    (3, Op::Push(0)),
+    (3, Op::Ne),
+    (3, Op::Jump(8)),
+    (3, Op::Push(0)),
+    (3, Op::Ret),
+    (3, Op::Push(0)),
+    (3, Op::Ret),
+];
+
+// int main(void)
+// {
+//     int x, y;
+//     { putchar(y || !y); }
+// }
+fn with_or(alloc: Global) -> Result<Program, AllocError>
+    ensures { IfOk result (λ p. HasNumbers (program p)) }
+{
+    let negated = unary(alloc, UnOp::Not, variable(1))?;
+    let written = Statement::Put {
+        line: Line::new(4),
+        value: or(alloc, variable(1), negated)?,
+    };
+    let block = block_of(4, vec![in alloc; written]?);
+    let body = vec![in alloc; block]?;
+    Ok(main_of(1, 5, body))
+}
+
+const WITH_OR: &[(u32, Op)] = &[
+    (1, Op::Push(0)),
+    (1, Op::Drop),
+    (4, Op::Frame(8)),
+    (4, Op::Load32s),
+    (4, Op::Jumpz(7)),
+    (4, Op::Push(1)),
+    (4, Op::Jump(13)),
+    (4, Op::Frame(8)),
+    (4, Op::Load32s),
+    (4, Op::Push(0)),
+    (4, Op::Eq),
+    (4, Op::Push(0)),
+    (4, Op::Ne),
+    (4, WRITE),
+    (4, Op::Drop),
+    (5, Op::Push(0)),
+    (5, Op::Ret),
+];
+
+// int main(void) { return (4 && 5) || 6 - 7;
+// }
+fn with_both(alloc: Global) -> Result<Program, AllocError>
+    ensures { IfOk result (λ p. HasNumbers (program p)) }
+{
+    let left = and(alloc, number(4), number(5))?;
+    let right = binary(alloc, BinOp::Sub, number(6), number(7))?;
+    let returned = Statement::Return {
+        line: Line::new(1),
+        value: or(alloc, left, right)?,
+    };
+    let body = vec![in alloc; returned]?;
+    Ok(main_of(1, 2, body))
+}
+
+const WITH_BOTH: &[(u32, Op)] = &[
+    (1, Op::Push(4)),
+    (1, Op::Jumpz(6)),
+    (1, Op::Push(5)),
+    (1, Op::Push(0)),
+    (1, Op::Ne),
+    (1, Op::Jump(7)),
+    (1, Op::Push(0)),
+    (1, Op::Jumpz(10)),
+    (1, Op::Push(1)),
+    (1, Op::Jump(16)),
+    (1, Op::Push(6)),
+    (1, Op::Push(7)),
+    (1, Op::Sub),
+    (1, AS_INT),
+    (1, Op::Push(0)),
+    (1, Op::Ne),
+    (1, Op::Ret),
+    (2, Op::Push(0)),
+    (2, Op::Ret),
+];
 
 // The program's instructions are these, each with its line.
 fn assert_code(
@@ -30,14 +255,14 @@ fn assert_code(
     tree: &Program,
     expected: &[(u32, Op)],
 ) -> Result<(), Fail>
-    requires { AreInts (program tree.now) }
+    requires { HasNumbers (program tree.now) }
 {
     let code = make_code(alloc, tree)?;
-    assert_eq!(rt; code.frame, 0);
+    assert_eq!(rt; code.frame, 16);
     assert_eq!(rt; code.body.len(), expected.len());
-    for (instr, (line, op)) in code.body.iter().zip(expected) {
-        assert_eq!(rt; instr.line.number(), *line, "at {op:?}");
-        assert_eq!(rt; instr.op, *op, "in line {line}");
+    for (place, (instr, (line, op))) in code.body.iter().zip(expected).enumerate() {
+        assert_eq!(rt; instr.line.number(), *line, "at {place}");
+        assert_eq!(rt; instr.op, *op, "at {place}");
     }
     Ok(())
 }
@@ -45,64 +270,8 @@ fn assert_code(
 #[test]
 fn codes_of_programs(rt: HostRuntime) -> Result<(), Fail> {
     let alloc = rt.alloc();
-
-    // int main(void) {
-    //     putchar(72);
-    //
-    //     putchar(266);
-    //     return 3;
-    // }
-    let in_lines = Program {
-        line: Line::new(1),
-        puts: vec![in alloc; statement_of(72, 2), statement_of(266, 4)]?,
-        result: statement_of(3, 5),
-    };
-    let expected = [
-        (1, Op::Push(0)),
-        (1, Op::Drop),
-        (2, Op::Push(72)),
-        (2, WRITE),
-        (2, Op::Drop),
-        (4, Op::Push(266)),
-        (4, WRITE),
-        (4, Op::Drop),
-        (5, Op::Push(3)),
-        (5, Op::Ret),
-    ];
-    assert_code(&rt, alloc, &in_lines, &expected)?;
-
-    // // main's first statement is in its own line
-    // int main(void) { putchar(10); putchar(0);
-    // return 255; }
-    let in_one_line = Program {
-        line: Line::new(2),
-        puts: vec![in alloc; statement_of(10, 2), statement_of(0, 2)]?,
-        result: statement_of(255, 3),
-    };
-    let expected = [
-        (2, Op::Push(10)),
-        (2, WRITE),
-        (2, Op::Drop),
-        (2, Op::Push(0)),
-        (2, WRITE),
-        (2, Op::Drop),
-        (3, Op::Push(255)),
-        (3, Op::Ret),
-    ];
-    assert_code(&rt, alloc, &in_one_line, &expected)?;
-
-    // int main(void)
-    // { return 2147483647; }
-    let without_puts = Program {
-        line: Line::new(1),
-        puts: Vec::new(alloc),
-        result: statement_of(2_147_483_647, 2),
-    };
-    let expected = [
-        (1, Op::Push(0)),
-        (1, Op::Drop),
-        (2, Op::Push(2_147_483_647)),
-        (2, Op::Ret),
-    ];
-    assert_code(&rt, alloc, &without_puts, &expected)
+    assert_code(&rt, alloc, &assigning(alloc)?, ASSIGNING)?;
+    assert_code(&rt, alloc, &with_and(alloc)?, WITH_AND)?;
+    assert_code(&rt, alloc, &with_or(alloc)?, WITH_OR)?;
+    assert_code(&rt, alloc, &with_both(alloc)?, WITH_BOTH)
 }

@@ -3,16 +3,16 @@ use Rattle.std.proofs.lemmas.Result.{err_from_is_err_and}
 use Rattle.css_base.specs.Tokens.{Lexeme, lexemes}
 use Rattle.css_small.specs.Tree.{Program}
 use Rattle.css_small.specs.Spelling.{SpellsTokens}
-use Rattle.css_small.specs.Grammar.{SpellsProgram}
+use Rattle.css_small.specs.Grammar.{IsProgram}
 use Rattle.css_small.specs.Refusal.{IfRefused, fault_of}
 use Rattle.css_small.specs.declared.unspelled.Unspelled.{Unspelled}
 use Rattle.css_small.specs.declared.unspelled.Unspelled.TheVariants.{NotSpelled, NoMemory}
 use Rattle.css_small.proofs.front.read_program.Goals as goal
 
 -- where the one list of tokens spells no program, the text is refused
-refused : (text : List ℕ) (tokens : List Lexeme) (why : Unspelled) → ((others : List Lexeme) → SpellsTokens text others → others ≡ tokens) → (why ≡ NotSpelled → (p : Program) → SpellsProgram tokens p → ⊥) → IfRefused text (fault_of why)
+refused : (text : List ℕ) (tokens : List Lexeme) (why : Unspelled) → ((others : List Lexeme) → SpellsTokens text others → others ≡ tokens) → (why ≡ NotSpelled → (p : Program) → IsProgram tokens p → ⊥) → IfRefused text (fault_of why)
 refused text tokens NotSpelled same none =
-    (refl, refl, inr (λ p spelled. none refl p (subst (λ ts. SpellsProgram ts p) (same spelled.0 spelled.1) spelled.2)))
+    (refl, refl, inr (λ p spelled. none refl p (subst (λ ts. IsProgram ts p) (same spelled.0 spelled.1) spelled.2)))
 refused text tokens NoMemory same none = tt
 
 pub returns-in_err-parse-clause-refused : goal.returns-in_err-parse-clause-refused

@@ -1,16 +1,21 @@
-use Rattle.css_small.proofs.Trees.{reads, ends, closes_same}
+use Rattle.std.proofs.Common.{arith}
+use Rattle.std.proofs.lemmas.List.{length-map}
+use Rattle.css_base.specs.Tokens.{lexeme}
+use Rattle.css_small.proofs.Exits.{all_ok}
+use Rattle.css_small.proofs.Programs.{program_reads, program_spelled}
 use Rattle.css_small.proofs.parser.parse.Goals as goal
 
-pub returns-in_default-clause-not_spelled : goal.returns-in_default-clause-not_spelled
-returns-in_default-clause-not_spelled c = λ _ p spelled. c.in_default.ensures.none _ _ (reads spelled).opens
+pub returns-clause-ok : goal.returns-clause-ok
+returns-clause-ok c =
+    all_ok c.main_function.result
+    (λ p reads levels variables. record {
+      spells = program_spelled reads;
+      tokens_fit = omega (arith, length-map c.args.tokens.now lexeme);
+      brackets_fit = c.is_shallow.ensures.0 c.if-not-is_shallow.false;
+      levels_fit = levels;
+      variables_fit = variables;
+    })
+    c.main_function.ensures.ok c.main_function.ensures.levels c.main_function.ensures.variables
 
-pub returns-in_default-return_of-clause-not_spelled : goal.returns-in_default-return_of-clause-not_spelled
-returns-in_default-return_of-clause-not_spelled c = λ _ p spelled.
-    let end = ends spelled c.in-Some.ensures.found c.in_ok-puts.ensures.taken c.in_ok-puts.ensures.all in
-    c.in_default-return_of.ensures.none _ _ end.result
-
-pub returns-else-is_closing-clause-not_spelled : goal.returns-else-is_closing-clause-not_spelled
-returns-else-is_closing-clause-not_spelled c = λ _ p spelled.
-    let end = ends spelled c.in-Some.ensures.found c.in_ok-puts.ensures.taken c.in_ok-puts.ensures.all in
-    let closing = c.is_closing.ensures.1 (closes_same end c.in-Some-return_of.ensures.found) in
-    absurd cc
+pub returns-clause-not_spelled : goal.returns-clause-not_spelled
+returns-clause-not_spelled c = λ why p s. c.main_function.ensures.not_spelled why p (program_reads s.spells) s.variables_fit s.levels_fit

@@ -1,4 +1,4 @@
-use Rattle.std.proofs.Common.{◌++◌, List, ap, sym, ◌∙◌, subst}
+use Rattle.std.proofs.Common.{ℕ, List, sym, subst}
 use Rattle.css_small.specs.Tree.{program}
 use Rattle.css_vm.specs.declared.code.Instr.{Instr}
 use Rattle.css_vm.specs.Code.{Routine}
@@ -11,6 +11,5 @@ pub returns : goal.returns
 returns c =
     let p = program c.args.tree.now in
     let main = program_code p in
-    let made = c.in_ok-emit_program.ensures ∙ ap (λ items. items ++ main.body) c.new-body.ensures.items in
-    let code_of = λ (body : List Instr). let f : Routine = record { frame = 0; body = body } in f in
-    subst (λ body. Codes (code_of body) p) (sym made) (codes p c.requires)
+    let made = λ (frame : ℕ) (body : List Instr). let f : Routine = record { frame = frame; body = body } in f in
+    subst (λ frame. Codes (made frame c.in_ok-body.body.items) p) (sym c.place_of.ensures) (subst (λ body. Codes (made main.frame body) p) (sym c.in_ok-body.ensures) (codes p c.requires))

@@ -1,26 +1,24 @@
-use Rattle.std.proofs.Common.{◌++◌, ◌-◌, [], arith}
+use Rattle.std.proofs.Common.{◌++◌, ◌+◌, [], refl, length, arith}
 use Rattle.css_io.proofs.Told.{Appends-more}
 use Rattle.css_vm.specs.Code.{routine}
 use Rattle.cssrun.proofs.Sinks.{Appends-nothing, RanAs-more}
-use Rattle.cssrun.proofs.Turns.{running_begun, begins_at}
+use Rattle.cssrun.proofs.Turns.{running_begun}
 use Rattle.cssrun.proofs.run.run_main.Goals as goal
 
 pub loop-init : goal.loop-init
 loop-init g c =
     let code = c.args.code.now in
-    let base = c.args.memory - code.frame in
-    let begun = begins_at (routine code) c.requires.sound.0 base c.requires.sound.1 in
-    rw (c.new-machine.ensures, c.in-Ok.ensures) (record {
-      by_plan = (c.requires.sound.0, c.requires.sound.1, (begun.0, begun.1, omega (arith, begun.2)));
-      wrote = ([], Appends-nothing _, λ r tape finishes. running_begun c.args.memory (routine code) r tape finishes);
+    rw (c.new-machine.ensures, c.in-Ok.ensures, c.in-Ok-new.ensures) (record {
+      by_plan = (c.requires.sound.0, c.requires.sound.1, (length code.body.items + 1, refl, omega arith));
+      wrote = ([], Appends-nothing _, λ o ending comes is. running_begun c.args.memory (routine code) o comes);
       never_fell = omega arith;
     })
 
 pub returns-in-Some : goal.returns-in-Some
-returns-in-Some g c = λ r tape finishes.
+returns-in-Some g c = λ o ending comes is.
     let before = c.loop.invariant.wrote in
-    let ends = c.in-Some.ensures.ends c.args.memory r tape before.0 (before.2 r tape finishes) in
-    rw ends.1 (RanAs-more g.O.Sink.written g.O.Sink.faults c.args.out.now c.loop.out c.turn.new.out r before.0 ends.0 c.in-Some.ran before.1 c.loop.invariant.never_fell ends.2)
+    let ends = c.in-Some.ensures.ends c.args.memory o ending before.0 is (before.2 o ending comes is) in
+    rw ends.1 (RanAs-more g.O.Sink.written g.O.Sink.faults c.args.out.now c.loop.out c.turn.new.out ending before.0 ends.0 c.in-Some.ran before.1 c.loop.invariant.never_fell ends.2)
 
 pub loop-preserved : goal.loop-preserved
 loop-preserved g c =
@@ -34,7 +32,7 @@ loop-preserved g c =
       wrote = (
         before.0 ++ goes_on.front,
         Appends-more (told c.args.out.now) (told c.loop.out) (told c.turn.new.out) before.0 goes_on.front before.1 goes_on.got,
-        λ r tape finishes. goes_on.running c.args.memory r tape before.0 (before.2 r tape finishes),
+        λ o ending comes is. goes_on.running c.args.memory o ending before.0 is (before.2 o ending comes is),
       );
       never_fell = omega (arith, c.loop.invariant.never_fell, goes_on.never_fell);
     }

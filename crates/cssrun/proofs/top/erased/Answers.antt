@@ -1,5 +1,3 @@
-use Rattle.std.proofs.Common.{◌+◌, arith}
-use Rattle.cssrun.specs.declared.top.TheConstants.{TEXT_LIMIT}
 use Rattle.cssrun.specs.Answer.{IsTextAnswer}
 use Rattle.cssrun.proofs.Endings.{ends_no_memory}
 use Rattle.cssrun.proofs.Sinks.{AppendsPrefix-nothing}
@@ -8,9 +6,9 @@ use Rattle.cssrun.proofs.top.erased.Goals as goal
 
 pub returns-in-Ok : goal.returns-in-Ok
 returns-in-Ok g c = λ words asks.
-    answered (TEXT_LIMIT + 1) (omega arith) words _ _ _ _ _ _ c.args.name.now c.in-Ok.text.items asks c.in-Ok.ensures.ok (rw c.as_slice.ensures.value at c.run_text.ensures)
+    answered words _ _ _ _ _ _ c.args.name.now c.in-Ok.text.items asks c.in-Ok.ensures.ok (rw c.as_slice.ensures.value at c.run_text.ensures)
 
 pub returns-in-Err-NoMemory : goal.returns-in-Err-NoMemory
 returns-in-Err-NoMemory g c = λ words asks.
-    answered_any (TEXT_LIMIT + 1) (omega arith) words _ _ _ _ _ _ c.args.name.now asks
+    answered_any words _ _ _ _ _ _ c.args.name.now asks
     (λ text. ends_no_memory (IsTextAnswer text) _ _ _ (λ a one. AppendsPrefix-nothing _ a.out) c.finish-in-Err-NoMemory.ensures)

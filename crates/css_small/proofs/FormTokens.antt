@@ -1,0 +1,74 @@
+-- What the first token of a statement is.
+use Rattle.std.proofs.Common.{◌≡◌, ℕ, ◌<◌, lit<, Bool, true, false, List, [], ◌∷◌, codes, Option, Some, None, Contains, bytes_eq, refl, sym, ap, ◌∙◌, subst, if◌then◌else◌}
+use Rattle.std.proofs.lemmas.Bool.{false_from_ne_true}
+use Rattle.std.proofs.lemmas.Slice.Eq.{bytes_eq-Decides}
+use Rattle.css_base.specs.Tokens.{Kind, Word, Number, Punctuator, Character, Text, Directive}
+use Rattle.css_small.specs.declared.parser.statements.Form.{Form}
+use Rattle.css_small.specs.declared.parser.statements.Form.TheVariants as forms
+use Rattle.css_small.specs.Grammar.{reserved}
+use Rattle.css_small.specs.Forms.{form_of, form_of_word, form_of_punctuator}
+
+-- a name that isn't reserved begins an assignment
+pub free_form : (name : List ℕ) → (Contains reserved name → ⊥) → form_of (Word name) ≡ Some forms.Assignment
+unfolding form_of_word
+free_form name free =
+    let not_putchar = false_from_ne_true (bytes_eq name (codes "putchar")) (λ e. free (subst (Contains reserved) (sym ((bytes_eq-Decides name (codes "putchar")).0 e)) (38, lit< tt, refl))) in
+    let not_return = false_from_ne_true (bytes_eq name (codes "return")) (λ e. free (subst (Contains reserved) (sym ((bytes_eq-Decides name (codes "return")).0 e)) (21, lit< tt, refl))) in
+    let not_int = false_from_ne_true (bytes_eq name (codes "int")) (λ e. free (subst (Contains reserved) (sym ((bytes_eq-Decides name (codes "int")).0 e)) (17, lit< tt, refl))) in
+    ap Some (ap (λ b. if b then forms.Put else (if bytes_eq name (codes "return") then forms.Return else (if bytes_eq name (codes "int") then forms.Declaration else forms.Assignment))) not_putchar
+    ∙ ap (λ b. if b then forms.Return else (if bytes_eq name (codes "int") then forms.Declaration else forms.Assignment)) not_return
+    ∙ ap (λ b. if b then forms.Declaration else forms.Assignment) not_int)
+
+pub form_of_semicolon : form_of (Punctuator (codes ";")) ≡ Some forms.Empty
+unfolding form_of_punctuator
+form_of_semicolon = refl
+
+pub form_of_brace : form_of (Punctuator (codes "{")) ≡ Some forms.Block
+unfolding form_of_punctuator
+form_of_brace = refl
+
+pub form_of_closing_brace : form_of (Punctuator (codes "}")) ≡ None
+unfolding form_of_punctuator
+form_of_closing_brace = refl
+
+pub form_of_putchar : form_of (Word (codes "putchar")) ≡ Some forms.Put
+unfolding form_of_word
+form_of_putchar = refl
+
+pub form_of_return : form_of (Word (codes "return")) ≡ Some forms.Return
+unfolding form_of_word
+form_of_return = refl
+
+pub form_of_int : form_of (Word (codes "int")) ≡ Some forms.Declaration
+unfolding form_of_word
+form_of_int = refl
+
+-- the token that begins a form, if only one does
+abbrev pub TokenOf : Form → Kind → Type 0
+TokenOf forms.Empty kind = kind ≡ Punctuator (codes ";")
+TokenOf forms.Block kind = kind ≡ Punctuator (codes "{")
+TokenOf forms.Put kind = kind ≡ Word (codes "putchar")
+TokenOf forms.Return kind = kind ≡ Word (codes "return")
+TokenOf forms.Declaration kind = kind ≡ Word (codes "int")
+TokenOf forms.Assignment kind = Unit {0}
+
+pub form_token : (kind : Kind) (f : Form) → form_of kind ≡ Some f → TokenOf f kind
+unfolding form_of_word form_of_punctuator
+form_token (Punctuator bytes) f is = by (bytes_eq bytes (codes ";")) (bytes_eq bytes (codes "{")) refl refl is
+  where
+    by : (b c : Bool) → bytes_eq bytes (codes ";") ≡ b → bytes_eq bytes (codes "{") ≡ c → (if b then Some forms.Empty else (if c then Some forms.Block else None)) ≡ Some f → TokenOf f (Punctuator bytes)
+    by true c e d h = let same : forms.Empty ≡ f = cc in subst (λ g. TokenOf g (Punctuator bytes)) same (ap Punctuator ((bytes_eq-Decides bytes (codes ";")).0 e))
+    by false true e d h = let same : forms.Block ≡ f = cc in subst (λ g. TokenOf g (Punctuator bytes)) same (ap Punctuator ((bytes_eq-Decides bytes (codes "{")).0 d))
+    by false false e d h = absurd cc
+form_token (Word bytes) f is = by (bytes_eq bytes (codes "putchar")) (bytes_eq bytes (codes "return")) (bytes_eq bytes (codes "int")) refl refl refl is
+  where
+    by : (b c d : Bool) → bytes_eq bytes (codes "putchar") ≡ b → bytes_eq bytes (codes "return") ≡ c → bytes_eq bytes (codes "int") ≡ d
+        → Some (if b then forms.Put else (if c then forms.Return else (if d then forms.Declaration else forms.Assignment))) ≡ Some f → TokenOf f (Word bytes)
+    by true c d p q r h = let same : forms.Put ≡ f = cc in subst (λ g. TokenOf g (Word bytes)) same (ap Word ((bytes_eq-Decides bytes (codes "putchar")).0 p))
+    by false true d p q r h = let same : forms.Return ≡ f = cc in subst (λ g. TokenOf g (Word bytes)) same (ap Word ((bytes_eq-Decides bytes (codes "return")).0 q))
+    by false false true p q r h = let same : forms.Declaration ≡ f = cc in subst (λ g. TokenOf g (Word bytes)) same (ap Word ((bytes_eq-Decides bytes (codes "int")).0 r))
+    by false false false p q r h = let same : forms.Assignment ≡ f = cc in subst (λ g. TokenOf g (Word bytes)) same tt
+form_token (Number type value) f is = absurd cc
+form_token (Character byte) f is = absurd cc
+form_token (Text bytes) f is = absurd cc
+form_token (Directive words) f is = absurd cc

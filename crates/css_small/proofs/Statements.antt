@@ -1,0 +1,151 @@
+-- Statements are read as they are spelled.
+use Rattle.std.proofs.Common.{◌≡◌, ℕ, ◌+◌, ◌<◌, ◌≤◌, lit<, Bool, true, false, List, [], ◌∷◌, ◌++◌, length, map, codes, Option, Some, None, slice_get, position, Contains, bytes_eq, refl, sym, ap, ◌∙◌, subst, arith, append_assoc, if◌then◌else◌}
+use Rattle.std.proofs.lemmas.Bool.{false_from_ne_true}
+use Rattle.std.proofs.lemmas.List.{map-append}
+use Rattle.std.proofs.lemmas.Slice.Eq.{bytes_eq-Decides}
+use Rattle.css_base.specs.Tokens.{Kind, Word, Punctuator, Lexeme}
+use Rattle.css_small.specs.declared.parser.statements.Form.TheVariants as forms
+use Rattle.css_small.specs.Tree.{Expression, Statement, Declare, Initialise, Empty, Assign, Put, Return, Block, Statements, End, More}
+use Rattle.css_small.specs.Spelling.{line_of}
+use Rattle.css_small.specs.Grammar.{kind_at, kinds, first_line, reserved, semicolon, Encloses, SpellsStatement, SpellsStatements}
+use Rattle.css_small.specs.Fronts.{Next, Takes, marks}
+use Rattle.css_small.specs.Forms.{form, form_of, form_of_word, form_of_punctuator, line_in}
+use Rattle.css_small.specs.Readings.{Begins, ReadsEnclosed, ReadsRest, ReadsStatements}
+use Rattle.css_small.proofs.Marks.{close_no_operator, semicolon_no_operator}
+use Rattle.css_small.proofs.FormTokens.{free_form, form_of_semicolon, form_of_brace, form_of_putchar, form_of_return, form_token}
+use Rattle.css_small.proofs.Numbering.{AreDeclared, declared_free, numbered, named}
+use Rattle.css_small.proofs.Completeness.{Cut, cut, Head, head_of, none_of}
+use Rattle.css_small.proofs.Enclosures.{front_taken, taken, Taken, taken_front, Opened, enclosed_reads, Enclosed, enclosed_spelled}
+
+-- ---- what is spelled is read
+
+-- a statement from its first token on
+pub record Read (names : List (List ℕ)) (s : Statement) (ts rest : List Lexeme) : Type 0 where
+  pub kind : Kind
+  pub behind : List Lexeme
+  pub begins : Begins s kind ts behind
+  pub reads : ReadsRest names kind behind s rest
+
+-- a statement that is an expression between punctuators
+opened : (names : List (List ℕ)) {kind : Kind} {front back : List Kind} {e : Expression} {ts : List Lexeme} (s : Statement) (rest : List Lexeme) → (o : Opened names kind front back e (line_in s) ts) → form_of kind ≡ Some (form s)
+    → Begins s kind (ts ++ rest) (o.behind ++ rest)
+opened names s rest o is = record { token = o.token; parts = ap (λ l. l ++ rest) o.parts; kind_is = o.kind_is; line_is = o.line_is; form_is = is }
+
+module _ (names : List (List ℕ)) (all : AreDeclared names) where
+  mutual
+    pub statement_reads : (s : Statement) (ts rest : List Lexeme) → SpellsStatement names ts s → Read names s (ts ++ rest) rest
+    statement_reads (Declare line k) ts rest h = absurd h
+    statement_reads (Initialise line k e) ts rest h = absurd h
+    statement_reads (Empty line) ts rest h =
+        let t = head_of ts (Punctuator (codes ";")) [] h.0 in
+        let parts : ts ≡ t.token ∷ [] = t.parts ∙ ap (λ l. t.token ∷ l) (none_of t.behind t.others) in
+        record {
+          kind = Punctuator (codes ";");
+          behind = rest;
+          begins = record { token = t.token; parts = ap (λ l. l ++ rest) parts; kind_is = t.is; line_is = ap first_line (sym parts) ∙ h.1; form_is = form_of_semicolon };
+          reads = refl;
+        }
+    statement_reads (Assign line k e) ts rest h =
+        let o = enclosed_reads names all.different (Word h.0) (marks (codes "=")) (Punctuator (codes ";")) [] semicolon_no_operator h.2 in
+        record {
+          kind = Word h.0;
+          behind = o.behind ++ rest;
+          begins = opened names (Assign line k e) rest o (free_form h.0 (declared_free names k h.0 all h.1));
+          reads = (h.0, refl, numbered names k h.0 all.different h.1, o.reads rest);
+        }
+    statement_reads (Put line e) ts rest h =
+        let o = enclosed_reads names all.different (Word (codes "putchar")) (marks (codes "(")) (Punctuator (codes ")")) semicolon close_no_operator h in
+        record { kind = Word (codes "putchar"); behind = o.behind ++ rest; begins = opened names (Put line e) rest o form_of_putchar; reads = o.reads rest }
+    statement_reads (Return line e) ts rest h =
+        let o = enclosed_reads names all.different (Word (codes "return")) [] (Punctuator (codes ";")) [] semicolon_no_operator h in
+        record { kind = Word (codes "return"); behind = o.behind ++ rest; begins = opened names (Return line e) rest o form_of_return; reads = o.reads rest }
+    statement_reads (Block line inner) ts rest (opens, us, closes, parts, opens_is, closes_is, line_is, spells) =
+        let closing = closes ∷ rest in
+        record {
+          kind = Punctuator (codes "{");
+          behind = us ++ closing;
+          begins = record {
+            token = opens;
+            parts = ap (λ l. l ++ rest) parts ∙ ap (λ l. opens ∷ l) (append_assoc us (closes ∷ []) rest);
+            kind_is = opens_is;
+            line_is = line_is;
+            form_is = form_of_brace;
+          };
+          reads = (closing, statements_read inner us closing spells, (rest, record { token = closes; parts = refl; is = closes_is }, refl));
+        }
+
+    pub statements_read : (ss : Statements) (ts rest : List Lexeme) → SpellsStatements names ts ss → ReadsStatements names (ts ++ rest) ss rest
+    statements_read End ts rest h = ap (λ l. l ++ rest) h
+    statements_read (More s others) ts rest (us, vs, parts, spells, more) =
+        let r = statement_reads s us (vs ++ rest) spells in
+        let at : ts ++ rest ≡ us ++ (vs ++ rest) = ap (λ l. l ++ rest) parts ∙ append_assoc us vs rest in
+        (r.kind, r.behind, vs ++ rest, subst (λ l. Begins s r.kind l r.behind) (sym at) r.begins, r.reads, statements_read others vs rest more)
+
+-- ---- what is read is spelled
+
+-- some tokens at the front spell a statement
+pub record Spells (names : List (List ℕ)) (s : Statement) (ts rest : List Lexeme) : Type 0 where
+  pub front : List Lexeme
+  pub parts : ts ≡ front ++ rest
+  pub spells : SpellsStatement names front s
+
+pub record SpellAll (names : List (List ℕ)) (ss : Statements) (ts rest : List Lexeme) : Type 0 where
+  pub front : List Lexeme
+  pub parts : ts ≡ front ++ rest
+  pub spells : SpellsStatements names front ss
+
+-- an expression between punctuators behind a first token
+pub closed : (names : List (List ℕ)) {s : Statement} {kind : Kind} {front back : List Kind} {e : Expression} {ts behind rest : List Lexeme} → (b : Begins s kind ts behind) → (r : Enclosed names front back e behind rest)
+    → Encloses names (b.token ∷ r.part) (kind ∷ front) e back (line_in s)
+closed names {s} {kind} {front} {back} {e} b r =
+    let one = subst (λ k. Encloses names (b.token ∷ r.part) (k ∷ front) e back (line_of b.token)) b.kind_is (r.spells b.token) in
+    subst (λ l. Encloses names (b.token ∷ r.part) (kind ∷ front) e back l) b.line_is one
+
+pub begun : {s : Statement} {kind : Kind} {ts behind : List Lexeme} (part rest : List Lexeme) → (b : Begins s kind ts behind) → behind ≡ part ++ rest → ts ≡ (b.token ∷ part) ++ rest
+begun part rest b parts = b.parts ∙ ap (λ l. b.token ∷ l) parts
+
+-- a statement that is an expression between punctuators
+encloses : (names : List (List ℕ)) (s : Statement) {front : List Kind} {back : List Kind} {e : Expression} {kind : Kind} {ts behind rest : List Lexeme} → Begins s kind ts behind → ReadsEnclosed names front back behind e rest
+    → (word : Kind) → kind ≡ word → ((part : List Lexeme) → Encloses names part (word ∷ front) e back (line_in s) → SpellsStatement names part s) → Spells names s ts rest
+encloses names s {front} {back} {e} {kind} b r word is spelled =
+    let x = enclosed_spelled names front back r in
+    record {
+      front = b.token ∷ x.part;
+      parts = begun x.part _ b x.parts;
+      spells = spelled (b.token ∷ x.part) (subst (λ k. Encloses names (b.token ∷ x.part) (k ∷ front) e back (line_in s)) is (closed names b x));
+    }
+
+module _ (names : List (List ℕ)) where
+  mutual
+    pub statement_spelled : (s : Statement) {kind : Kind} {ts behind rest : List Lexeme} → Begins s kind ts behind → ReadsRest names kind behind s rest → Spells names s ts rest
+    statement_spelled (Declare line k) b r = absurd r
+    statement_spelled (Initialise line k e) b r = absurd r
+    statement_spelled (Empty line) {kind} b r = record {
+      front = b.token ∷ [];
+      parts = b.parts ∙ ap (λ l. b.token ∷ l) r;
+      spells = (ap (λ k. k ∷ []) (b.kind_is ∙ form_token kind forms.Empty b.form_is), b.line_is);
+    }
+    statement_spelled (Assign line k e) {kind} b (name, is, at, r) = encloses names (Assign line k e) b r (Word name) is (λ part x. (name, named names k name at, x))
+    statement_spelled (Put line e) {kind} b r = encloses names (Put line e) b r (Word (codes "putchar")) (form_token kind forms.Put b.form_is) (λ part x. x)
+    statement_spelled (Return line e) {kind} b r = encloses names (Return line e) b r (Word (codes "return")) (form_token kind forms.Return b.form_is) (λ part x. x)
+    statement_spelled (Block line inner) {kind} {ts} {behind} {rest} b (closing, r, (close, n, last)) =
+        let x = statements_spelled inner r in
+        let closes : closing ≡ n.token ∷ rest = n.parts ∙ ap (λ l. n.token ∷ l) last in
+        let part = x.front ++ n.token ∷ [] in
+        let behind_is : behind ≡ part ++ rest = x.parts ∙ ap (λ l. x.front ++ l) closes ∙ sym (append_assoc x.front (n.token ∷ []) rest) in
+        record {
+          front = b.token ∷ part;
+          parts = begun part rest b behind_is;
+          spells = (b.token, x.front, n.token, refl, b.kind_is ∙ form_token kind forms.Block b.form_is, n.is, b.line_is, x.spells);
+        }
+
+    pub statements_spelled : (ss : Statements) {ts rest : List Lexeme} → ReadsStatements names ts ss rest → SpellAll names ss ts rest
+    statements_spelled End r = record { front = []; parts = r; spells = refl }
+    statements_spelled (More s others) {ts} {rest} (kind, behind, next, b, r, more) =
+        let x = statement_spelled s b r in
+        let y = statements_spelled others more in
+        record {
+          front = x.front ++ y.front;
+          parts = x.parts ∙ ap (λ l. x.front ++ l) y.parts ∙ sym (append_assoc x.front y.front rest);
+          spells = (x.front, y.front, refl, x.spells, y.spells);
+        }

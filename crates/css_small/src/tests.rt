@@ -1,0 +1,327 @@
+//! Texts and the trees that they spell.
+use crate::{Expression, Statement, read_program};
+use css_base::FrontFault;
+use std::alloc::{AllocError, Global};
+use std::process::Abort;
+use std::test::Fail;
+
+/// Writes an expression with its operators in front and a pair of parentheses for each.
+fn write_expression(out: &mut String, e: &Expression) -> Result<(), AllocError> {
+    match e {
+        Expression::Number(value) => write!(out, "{value}"),
+        Expression::Variable(k) => write!(out, "v{k}"),
+        Expression::Unary(op, a) => {
+            write!(out, "({op:?} ")?;
+            write_expression(out, a)?;
+            out.push_str(")")
+        }
+        Expression::Binary(op, a, b) => {
+            write!(out, "({op:?} ")?;
+            write_operands(out, a, b)
+        }
+        Expression::And(a, b) => {
+            out.push_str("(&& ")?;
+            write_operands(out, a, b)
+        }
+        Expression::Or(a, b) => {
+            out.push_str("(|| ")?;
+            write_operands(out, a, b)
+        }
+    }
+}
+
+fn write_operands(out: &mut String, a: &Expression, b: &Expression) -> Result<(), AllocError> {
+    write_expression(out, a)?;
+    out.push_str(" ")?;
+    write_expression(out, b)?;
+    out.push_str(")")
+}
+
+/// Writes statements, each with its line.
+fn write_statements(out: &mut String, statements: &[Statement]) -> Result<(), AllocError> {
+    for statement in statements {
+        write_statement(out, statement)?;
+        out.push_str(" ")?;
+    }
+    Ok(())
+}
+
+fn write_statement(out: &mut String, statement: &Statement) -> Result<(), AllocError> {
+    match statement {
+        Statement::Declare { line, variable } => write!(out, "{}:int v{variable}", line.number()),
+        Statement::Initialise {
+            line,
+            variable,
+            value,
+        } => {
+            write!(out, "{}:int v{variable}=", line.number())?;
+            write_expression(out, value)
+        }
+        Statement::Empty { line } => write!(out, "{}:;", line.number()),
+        Statement::Assign {
+            line,
+            variable,
+            value,
+        } => {
+            write!(out, "{}:v{variable}=", line.number())?;
+            write_expression(out, value)
+        }
+        Statement::Put { line, value } => {
+            write!(out, "{}:put ", line.number())?;
+            write_expression(out, value)
+        }
+        Statement::Return { line, value } => {
+            write!(out, "{}:return ", line.number())?;
+            write_expression(out, value)
+        }
+        Statement::Block { line, statements } => {
+            write!(out, "{}:{{ ", line.number())?;
+            write_statements(out, statements.as_slice())?;
+            out.push_str("}")
+        }
+    }
+}
+
+/// The program that a text spells, as it is written; or the rule that it breaks.
+fn read(alloc: Global, text: &str) -> Result<String, Fail> {
+    let mut out = String::new(alloc);
+    match read_program(alloc, text.as_bytes()) {
+        Ok(program) => {
+            write_statements(&mut out, program.body.as_slice())?;
+            write!(
+                &mut out,
+                "{}-{} {}",
+                program.line.number(),
+                program.end.number(),
+                program.variables
+            )?;
+        }
+        Err(FrontFault::Static(fault)) => write!(
+            &mut out,
+            "{:?} {}",
+            fault.name,
+            fault.line.number()
+        )?,
+        Err(FrontFault::NoMemory) => out.push_str("no memory")?,
+    }
+    Ok(out)
+}
+
+/// Reads `text`, and wants `want`.
+fn check(rt: &impl Abort, alloc: Global, text: &str, want: &str) -> Result<(), Fail> {
+    let got = read(alloc, text)?;
+    assert_eq!(rt; got.as_str(), want, "at {text}");
+    Ok(())
+}
+
+/// C99 6.5.3 and 6.5.5 to 6.5.14: the tighter operator takes the operand, and the left one of a level.
+#[test]
+fn levels(rt: HostRuntime) -> Result<(), Fail> {
+    let alloc = rt.alloc();
+    for (expression, want) in [
+        ("2147483647", "2147483647"),
+        ("1 - 2 - 3", "(Sub (Sub 1 2) 3)"),
+        ("1 - (2 - 3)", "(Sub 1 (Sub 2 3))"),
+        ("8 / 4 % 3 * 2", "(Mul (Rem (Div 8 4) 3) 2)"),
+        ("1 + 2 * 3", "(Add 1 (Mul 2 3))"),
+        ("(1 + 2) * 3", "(Mul (Add 1 2) 3)"),
+        ("1 << 2 + 3 >> 4", "(Shr (Shl 1 (Add 2 3)) 4)"),
+        ("1 < 2 << 3", "(Lt 1 (Shl 2 3))"),
+        ("1 <= 2 > 3 >= 4", "(Ge (Gt (Le 1 2) 3) 4)"),
+        ("1 < 2 == 3 != 4", "(Ne (Eq (Lt 1 2) 3) 4)"),
+        ("1 & 2 == 3", "(And 1 (Eq 2 3))"),
+        ("1 | 2 ^ 3 & 4", "(Or 1 (Xor 2 (And 3 4)))"),
+        ("1 && 2 | 3", "(&& 1 (Or 2 3))"),
+        ("1 || 2 && 3", "(|| 1 (&& 2 3))"),
+        ("1 && 2 || 3", "(|| (&& 1 2) 3)"),
+        ("1 || 2 || 3", "(|| (|| 1 2) 3)"),
+        ("1 && 2 && 3", "(&& (&& 1 2) 3)"),
+        ("- ~ ! + 1", "(Minus (Complement (Not (Plus 1))))"),
+        ("-1 * 2", "(Mul (Minus 1) 2)"),
+        ("1 - - 1", "(Sub 1 (Minus 1))"),
+        ("-(1 + 2)", "(Minus (Add 1 2))"),
+        ("((x))", "v0"),
+    ] {
+        let text = format!(in alloc; "int main(void){{int x={expression};}}")?;
+        let read = format!(in alloc; "1:int v0={want} 1-1 1")?;
+        check(&rt, alloc, text.as_str(), read.as_str())?;
+    }
+    Ok(())
+}
+
+/// What main's body may be, with the lines of first tokens.
+#[test]
+fn bodies(rt: HostRuntime) -> Result<(), Fail> {
+    let alloc = rt.alloc();
+    for (text, want) in [
+        ("int main(void){}", "1-1 0"),
+        ("\nint main\n(void)\n{\n}", "2-5 0"),
+        (
+            "int main(void){;{};{{}}}",
+            "1:; 1:{ } 1:; 1:{ 1:{ } }  1-1 0",
+        ),
+        (
+            "int main(void){int x;int y=x;y\n=\nx;return\ny;}",
+            "1:int v0 1:int v1=v0 1:v1=v0 3:return v1 4-4 2",
+        ),
+        (
+            "int main(void){int a;\n{\na=1;\nputchar\n(a);}\n}",
+            "1:int v0 2:{ 3:v0=1 4:put v0 }  1-6 1",
+        ),
+        (
+            "int main(void){int main;int x=x;int putchars;main=putchars;}",
+            "1:int v0 1:int v1=v1 1:int v2 1:v0=v2 1-1 3",
+        ),
+        (
+            "int main(void){return 1;;int x;}",
+            "1:return 1 1:; 1:int v0 1-1 1",
+        ),
+    ] {
+        check(&rt, alloc, text, want)?;
+    }
+    Ok(())
+}
+
+/// What isn't of the part that is built.
+#[test]
+fn near_misses(rt: HostRuntime) -> Result<(), Fail> {
+    let alloc = rt.alloc();
+    for body in [
+        "int x; x = x --1;",
+        "int x; x = x++x;",
+        "int x = 1 2;",
+        "int x = ();",
+        "int x = (1;",
+        "int x = 1);",
+        "int x = 2147483648;",
+        "int x = 1 +;",
+        "int x = * 1;",
+        "int x = 1, y;",
+        "int x = y;",
+        "int x; x y;",
+        "int x; x = 1",
+        "int x; x + 1;",
+        "int x; int x;",
+        "x = 1; int x;",
+        "int int;",
+        "int if;",
+        "int putchar;",
+        "int _Bool;",
+        "int 1;",
+        "{ int x; }",
+        "return;",
+        "putchar 1;",
+        "putchar(1) + 2;",
+        "putchar();",
+        "{",
+        "}",
+    ] {
+        let text = format!(in alloc; "int main(void){{{body}}}")?;
+        check(&rt, alloc, text.as_str(), "NotBuilt 1")?;
+    }
+    for text in [
+        "",
+        "{}",
+        "int main(){}",
+        "int main(void);",
+        "int main(void){};",
+        "int main(void){}}",
+        "void main(void){}",
+    ] {
+        check(&rt, alloc, text, "NotBuilt 1")?;
+    }
+    Ok(())
+}
+
+/// Whether the text spells a program.
+fn is_read(alloc: Global, text: &str) -> Result<bool, Fail> {
+    match read_program(alloc, text.as_bytes()) {
+        Ok(_) => Ok(true),
+        Err(FrontFault::Static(_)) => Ok(false),
+        Err(FrontFault::NoMemory) => Err(Fail::from("no memory")),
+    }
+}
+
+/// Main with a body of `front`, so many copies of `open`, `middle`, as many of `close`, and `back`.
+fn nested(
+    alloc: Global,
+    [front, open, middle, close, back]: [&str; 5],
+    count: u32,
+) -> Result<String, Fail> {
+    let mut text = String::from_str(alloc, "int main(void){")?;
+    text.push_str(front)?;
+    for _ in 0..count {
+        text.push_str(open)?;
+    }
+    text.push_str(middle)?;
+    for _ in 0..count {
+        text.push_str(close)?;
+    }
+    text.push_str(back)?;
+    text.push_str("}")?;
+    Ok(text)
+}
+
+/// 200 open brackets, 500 levels and 1,000,000 tokens are read, and one more is not.
+#[test]
+fn limits(rt: HostRuntime) -> Result<(), Fail> {
+    let alloc = rt.alloc();
+    for (parts, most) in [
+        // Main's brace and 199 others.
+        (["int x=", "(", "1", ")", ";"], 199),
+        (["", "{", "", "}", ""], 199),
+        // Main, its block, the declaration, 496 operators and the constant.
+        (["int x=", "~", "1", "", ";"], 496),
+        (["int x=1", "+1", "", "", ";"], 496),
+        // Main, its block, an assignment as a statement and as an expression, 495 operators and the variable.
+        (["int x;x=", "-", "x", "", ";"], 495),
+        // Main, its block, 50 more, a call as a statement and as an expression, 445 operators and the constant.
+        (
+            [
+                "{{{{{{{{{{{{{{{{{{{{{{{{{{{{{{{{{{{{{{{{{{{{{{{{{{putchar(1",
+                "-1",
+                "",
+                "",
+                ");}}}}}}}}}}}}}}}}}}}}}}}}}}}}}}}}}}}}}}}}}}}}}}}}}}}}",
+            ],
+            445,
+        ),
+        // Main has seven tokens of its own.
+        (["", ";", "", "", ""], 999_993),
+    ] {
+        for (count, want) in [(most, true), (most + 1, false)] {
+            let text = nested(alloc, parts, count)?;
+            assert_eq!(rt;
+                is_read(alloc, text.as_str())?,
+                want,
+                "{count} of {}",
+                parts[1]
+            );
+        }
+    }
+    Ok(())
+}
+
+/// 1,000 variables are read, and one more is not.
+#[test]
+fn variables(rt: HostRuntime) -> Result<(), Fail> {
+    let alloc = rt.alloc();
+    for (count, want) in [(1000, true), (1001, false)] {
+        let mut text = String::from_str(alloc, "int main(void){")?;
+        for k in 0..count {
+            write!(&mut text, "int a{k};")?;
+        }
+        text.push_str("}")?;
+        assert_eq!(rt; is_read(alloc, text.as_str())?, want, "{count}");
+    }
+    Ok(())
+}
+
+/// However many unary operators stand in a row, no more levels are read.
+#[test]
+fn many_operators(rt: HostRuntime) -> Result<(), Fail> {
+    let alloc = rt.alloc();
+    let text = nested(alloc, ["int x=", "~", "1", "", ";"], 900_000)?;
+    assert!(rt; !is_read(alloc, text.as_str())?);
+    Ok(())
+}

@@ -1,0 +1,52 @@
+-- The line in which a program's code begins.
+use Rattle.std.proofs.Common.{◌≡◌, ℕ, ◌+◌, pos, nat_eq, if◌then◌else◌, List, [], ◌∷◌, ◌++◌, length, Option, Some, None, refl, ap, sym, ◌∙◌, append_assoc, Bool}
+use Rattle.std.specs.Option.{option_or, unwrap_or}
+use Rattle.css_vm.specs.declared.code.Instr.{Instr}
+use Rattle.css_vm.specs.declared.code.Op.{Op}
+use Rattle.css_vm.specs.declared.code.Op.TheVariants as ops
+use Rattle.css_vm.specs.declared.code.Conversion.TheVariants as conversions
+use Rattle.css_vm.specs.Code.{first_line}
+use Rattle.css_small.specs.Tree.{Statement, Declare, Initialise, Empty, Assign, Put, Return, Block, Statements, End, More, Program}
+use Rattle.css_small_code.specs.Code.{in_line, expression_code, statement_code, statements_code, end_code, entry_code}
+use Rattle.css_small_code.specs.Lines.{line_in, line_in_all}
+
+-- code of one line that isn't empty
+first_in_line : (line : ℕ) (xs : List Op) (y : Op) (ys : List Op) (rest : List Instr) → first_line (in_line line (xs ++ y ∷ ys) ++ rest) ≡ line
+first_in_line line [] y ys rest = refl
+first_in_line line (x ∷ xs) y ys rest = refl
+
+-- by the first of two parts or by the second
+first_of_both : (a b : Option ℕ) (default : ℕ) → unwrap_or a (unwrap_or b default) ≡ unwrap_or (option_or a b) default
+first_of_both None b default = refl
+first_of_both (Some line) b default = refl
+
+mutual
+  first_of_statement : (s : Statement) (at : ℕ) (rest : List Instr) → first_line (statement_code s at ++ rest) ≡ unwrap_or (line_in s) (first_line rest)
+  first_of_statement (Declare line k) at rest = refl
+  first_of_statement (Initialise line k e) at rest = refl
+  first_of_statement (Empty line) at rest = refl
+  first_of_statement (Assign line k e) at rest = refl
+  first_of_statement (Put line e) at rest = first_in_line line (expression_code e at) (ops.Out conversions.Char) (ops.Drop ∷ []) rest
+  first_of_statement (Return line e) at rest = first_in_line line (expression_code e at) ops.Ret [] rest
+  first_of_statement (Block line all) at rest = first_of_statements all at rest
+
+  pub first_of_statements : (all : Statements) (at : ℕ) (rest : List Instr) → first_line (statements_code all at ++ rest) ≡ unwrap_or (line_in_all all) (first_line rest)
+  first_of_statements End at rest = refl
+  first_of_statements (More s others) at rest =
+      let first = statement_code s at in
+      let behind = statements_code others (at + length first) in
+      ap first_line (append_assoc first behind rest)
+      ∙ first_of_statement s at (behind ++ rest)
+      ∙ ap (unwrap_or (line_in s)) (first_of_statements others (at + length first) rest)
+      ∙ first_of_both (line_in s) (line_in_all others) (first_line rest)
+
+-- where a program's body begins
+begins : (p : Program) → first_line (statements_code p.body 0 ++ end_code p.end) ≡ unwrap_or (line_in_all p.body) p.end
+begins p = first_of_statements p.body 0 (end_code p.end)
+
+-- the entry's code, by whether the body's code begins in main's line
+abbrev pub entry_if : Bool → ℕ → List Instr
+entry_if within line = if within then [] else in_line line (ops.Push (pos 0) ∷ ops.Drop ∷ [])
+
+pub entry_is : (p : Program) (line : ℕ) (within : Bool) → line ≡ unwrap_or (line_in_all p.body) p.end → nat_eq line p.line ≡ within → entry_code p ≡ entry_if within p.line
+entry_is p line within is test = ap (λ l. entry_if (nat_eq l p.line) p.line) (begins p ∙ sym is) ∙ ap (λ b. entry_if b p.line) test

@@ -1,0 +1,128 @@
+-- What the space replies to, along the way of a tape.
+use Rattle.std.proofs.Common.{◌≡◌, ◌<◌, ℕ, zero, suc, ◌+◌, ◌-◌, ◌%◌, ◌^◌, List, [], ◌∷◌, ◌++◌, length, IsTrue, true, false, refl, sym, ap, ◌∙◌, arith}
+use Rattle.std.proofs.lemmas.List.{append-nil}
+use Rattle.std.proofs.Math.Dec.{eqb-suc-zero}
+use Rattle.css_base.specs.declared.ending.Stop.TheVariants as stops
+use Rattle.css_base.specs.declared.ending.FaultKind.{FaultKind}
+use Rattle.css_base.specs.declared.ending.FaultKind.TheVariants.{DivideByZero, OutsideMemory}
+use Rattle.css_semantics.specs.Dialogue.{Action, Enter, Leave, Load, Store, Out, Fault, End, Reply, Says, Fails, Ends, Tape, World, Outcome, Goes, Stops, Over, Faulted, item, then_do, ask, replied, fault, output, written_by}
+use Rattle.css_semantics.specs.Worlds.{state_after, is_of_memory, Follows}
+use Rattle.css_semantics.specs.Memory.{big_endian_bytes}
+use Rattle.css_vm.specs.declared.code.Op.{Op}
+use Rattle.css_vm.specs.declared.code.Op.TheVariants as ops
+use Rattle.css_vm.specs.declared.code.Narrow.TheVariants as narrows
+use Rattle.css_vm.specs.Cells.{narrowed, quotient_of, remainder_of}
+use Rattle.css_vm.specs.Machine.{State, At, After, On, next, effect}
+use Rattle.css_vm.specs.Events.{Along, IsStop}
+use Rattle.css_vm.specs.Effects.{Changes, Performs, Halts}
+
+writes_nothing : (action : Action) → IsTrue (is_of_memory action) → written_by action ≡ []
+writes_nothing (Enter size) h = refl
+writes_nothing (Leave base size) h = refl
+writes_nothing (Load address width) h = refl
+writes_nothing (Store address bytes) h = refl
+writes_nothing (Out bytes) h = cc
+writes_nothing (Fault kind) h = cc
+writes_nothing (End result) h = cc
+
+module _ {S : Type 0} (reply : S → Action → Reply) (learn : S → Action → S) where
+  pub along_map : {space space' : S} {P Q : World → Tape → Tape → Type 0} → ((w : World) (tape later : Tape) → P w tape later → Q w tape later) → Along reply learn space space' P → Along reply learn space space' Q
+  along_map go along = λ w start tape follows at.
+      let there = along w start tape follows at in
+      (there.0, there.1, there.2, go w tape there.0 there.3)
+
+  -- nothing is asked
+  pub along_none : (space : S) (P : World → Tape → Tape → Type 0) → ((w : World) (tape : Tape) → P w tape tape) → Along reply learn space space P
+  along_none space P here = λ w start tape follows at. (tape, at, refl, here w tape)
+
+  -- the program is at fault
+  pub along_fault : (space : S) (kind : FaultKind) (line : ℕ) (P : World → Tape → Tape → Type 0) → ((w : World) (tape : Tape) → P w tape (item (Fault kind) line ∷ tape)) → Along reply learn space space P
+  along_fault space kind line P here = λ w start tape follows at. (
+    item (Fault kind) line ∷ tape,
+    follows.keeps (state_after learn start tape) (Fault kind) refl ∙ at,
+    append-nil (output tape),
+    here w tape,
+  )
+
+  module _ (space : S) (action : Action) (line : ℕ) (of_memory : IsTrue (is_of_memory action)) where
+    says : (w : World) (start : S) (tape : Tape) (r : Reply) → Follows w reply learn start → state_after learn start tape ≡ space → reply space action ≡ r → ask w action line tape ≡ replied r line (item action line ∷ tape)
+    says w start tape r follows at e =
+        ap (λ q. replied q line (item action line ∷ tape)) (follows.replies tape (item action line) of_memory ∙ ap (λ s. reply s action) at ∙ e)
+
+    quiet : (tape : Tape) → output (item action line ∷ tape) ≡ output tape
+    quiet tape = ap (λ bytes. output tape ++ bytes) (writes_nothing action of_memory) ∙ append-nil (output tape)
+
+    pub along_says : (value : ℕ) → reply space action ≡ Says value → Along reply learn space (learn space action) (λ w tape later. ask w action line tape ≡ Goes value later)
+    along_says value e = λ w start tape follows at.
+        (item action line ∷ tape, ap (λ s. learn s action) at, quiet tape, says w start tape (Says value) follows at e)
+
+    pub along_fails : reply space action ≡ Fails → Along reply learn space (learn space action) (λ w tape later. ask w action line tape ≡ Stops (Faulted OutsideMemory line) later)
+    along_fails e = λ w start tape follows at.
+        let asked = item action line ∷ tape in (
+          item (Fault OutsideMemory) line ∷ asked,
+          follows.keeps (state_after learn start asked) (Fault OutsideMemory) refl ∙ ap (λ s. learn s action) at,
+          append-nil (output asked) ∙ quiet tape,
+          says w start tape Fails follows at e,
+        )
+
+    pub along_ends : reply space action ≡ Ends → Along reply learn space space (λ w tape later. ask w action line tape ≡ Stops Over (item action line ∷ later))
+    along_ends e = λ w start tape follows at. (tape, at, refl, says w start tape Ends follows at e)
+
+  -- ---- instructions
+
+  pub performs_change : (op : Op) (base : ℕ) (old new : List ℕ) (space : S) → Changes op base old new → Performs reply learn op base old space new space
+  performs_change op base old new space changes = record {
+    does = λ f line place. along_none space (λ w tape later. effect w f line base place op old tape ≡ next w f line base place new later) (λ w tape. changes.does w f line place tape);
+    height = changes.height;
+  }
+
+  module _ (base a : ℕ) (rest : List ℕ) (space space' : S) where
+    pub performs_load : (r : ℕ) → reply space (Load (a % 2 ^ 32) 4) ≡ Says r → space' ≡ learn space (Load (a % 2 ^ 32) 4) → Performs reply learn ops.Load32s base (a ∷ rest) space (narrowed narrows.S32 r ∷ rest) space'
+    performs_load r says-is learns = record {
+      does = λ f line place.
+          rw learns
+          (along_map (λ w tape later e. ap (λ o. then_do o (λ value t. next w f line base place (narrowed narrows.S32 value ∷ rest) t)) e) (along_says space (Load (a % 2 ^ 32) 4) line refl r says-is));
+      height = omega arith;
+    }
+
+    pub halts_load : reply space (Load (a % 2 ^ 32) 4) ≡ Fails → space' ≡ learn space (Load (a % 2 ^ 32) 4) → Halts reply learn ops.Load32s base (a ∷ rest) space (stops.Fault OutsideMemory) space'
+    halts_load fails learns = record {
+      stops = λ f line place.
+          rw learns
+          (along_map (λ w tape later e. ap (λ o. then_do o (λ value t. next w f line base place (narrowed narrows.S32 value ∷ rest) t)) e) (along_fails space (Load (a % 2 ^ 32) 4) line refl fails));
+    }
+
+    module _ (v : ℕ) where
+      pub performs_store : (r : ℕ) → reply space (Store (a % 2 ^ 32) (big_endian_bytes 4 v)) ≡ Says r → space' ≡ learn space (Store (a % 2 ^ 32) (big_endian_bytes 4 v)) → Performs reply learn ops.Store32 base (v ∷ a ∷ rest) space (v ∷ rest) space'
+      performs_store r says-is learns = record {
+        does = λ f line place.
+            rw learns
+            (along_map (λ w tape later e. ap (λ o. then_do o (λ value t. next w f line base place (v ∷ rest) t)) e) (along_says space (Store (a % 2 ^ 32) (big_endian_bytes 4 v)) line refl r says-is));
+        height = omega arith;
+      }
+
+      pub halts_store : reply space (Store (a % 2 ^ 32) (big_endian_bytes 4 v)) ≡ Fails → space' ≡ learn space (Store (a % 2 ^ 32) (big_endian_bytes 4 v)) → Halts reply learn ops.Store32 base (v ∷ a ∷ rest) space (stops.Fault OutsideMemory) space'
+      halts_store fails learns = record {
+        stops = λ f line place.
+            rw learns
+            (along_map (λ w tape later e. ap (λ o. then_do o (λ value t. next w f line base place (v ∷ rest) t)) e) (along_fails space (Store (a % 2 ^ 32) (big_endian_bytes 4 v)) line refl fails));
+      }
+
+  module _ (base a : ℕ) (rest : List ℕ) (space : S) where
+    pub performs_divs : (b : ℕ) → 0 < b → Performs reply learn ops.Divs base (b ∷ a ∷ rest) space (quotient_of a b ∷ rest) space
+    performs_divs zero some = absurd (omega arith)
+    performs_divs (suc b) some = performs_change ops.Divs base (suc b ∷ a ∷ rest) (quotient_of a (suc b) ∷ rest) space (record { does = λ w f line place tape. rw (eqb-suc-zero b); height = omega arith })
+
+    pub performs_rems : (b : ℕ) → 0 < b → Performs reply learn ops.Rems base (b ∷ a ∷ rest) space (remainder_of a b ∷ rest) space
+    performs_rems zero some = absurd (omega arith)
+    performs_rems (suc b) some = performs_change ops.Rems base (suc b ∷ a ∷ rest) (remainder_of a (suc b) ∷ rest) space (record { does = λ w f line place tape. rw (eqb-suc-zero b); height = omega arith })
+
+    pub halts_divs : Halts reply learn ops.Divs base (0 ∷ a ∷ rest) space (stops.Fault DivideByZero) space
+    halts_divs = record {
+      stops = λ f line place. along_fault space DivideByZero line (λ w tape later. IsStop (stops.Fault DivideByZero) line (effect w f line base place ops.Divs (0 ∷ a ∷ rest) tape) later) (λ w tape. refl);
+    }
+
+    pub halts_rems : Halts reply learn ops.Rems base (0 ∷ a ∷ rest) space (stops.Fault DivideByZero) space
+    halts_rems = record {
+      stops = λ f line place. along_fault space DivideByZero line (λ w tape later. IsStop (stops.Fault DivideByZero) line (effect w f line base place ops.Rems (0 ∷ a ∷ rest) tape) later) (λ w tape. refl);
+    }

@@ -1,0 +1,24 @@
+use Rattle.std.proofs.Common.{◌≡◌, ◌∷◌, ap, ◌∙◌}
+use Rattle.std.proofs.lemmas.Result.{err_from_is_err_and}
+use Rattle.css_vm.proofs.Requests.{performs_store, halts_store}
+use Rattle.css_vm.proofs.operations.store.Goals as goal
+
+pub returns-in_err-store-clause-halts : goal.returns-in_err-store-clause-halts
+returns-in_err-store-clause-halts g c =
+    let refused = c.in_err-store.ensures in
+    let exit = err_from_is_err_and c.from_residual.result c.from_residual.ensures.1 in
+    let v = c.pop-value.result in
+    let stack : c.args.stack.now ≡ v ∷ c.top.result ∷ c.top.ensures.0 = c.pop-value.ensures ∙ ap (λ below. v ∷ below) c.top.ensures.1 in
+    rw (exit.1, exit.2, refused.fails.0, stack)
+    (λ base. halts_store g.S.Space.reply g.S.Space.learn base c.top.result c.top.ensures.0 c.args.space.now c.store.new.self v refused.fails.1 refused.learns)
+
+pub returns-clause-performs : goal.returns-clause-performs
+returns-clause-performs g c =
+    let stored = c.in_ok-store.ensures in
+    let v = c.pop-value.result in
+    let below = c.top.ensures.1 in
+    let after = c.set_top.ensures in
+    let stack : c.args.stack.now ≡ v ∷ c.top.result ∷ c.top.ensures.0 = c.pop-value.ensures ∙ ap (λ below. v ∷ below) below in
+    let left : c.set_top.new.self ≡ v ∷ c.top.ensures.0 = cc (below, after.2, after.3) in
+    rw (stack, left)
+    (λ base. performs_store g.S.Space.reply g.S.Space.learn base c.top.result c.top.ensures.0 c.args.space.now c.store.new.self v stored.says.0 stored.says.1 stored.learns)

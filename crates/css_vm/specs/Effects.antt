@@ -1,0 +1,47 @@
+-- What an instruction does that goes on at the next place: to the stack, and to the space.
+use Rattle.std.specs.Prelude.{◌≡◌, ℕ, ◌+◌, ◌-◌, List, length, Bool, true, false}
+use Rattle.css_base.specs.declared.ending.Stop.{Stop}
+use Rattle.css_semantics.specs.Dialogue.{Action, Reply, Tape, World}
+use Rattle.css_vm.specs.declared.code.Op.{Op}
+use Rattle.css_vm.specs.declared.code.Op.TheVariants as ops
+use Rattle.css_vm.specs.Code.{Routine}
+use Rattle.css_vm.specs.Machine.{effect, next}
+use Rattle.css_vm.specs.Soundness.{takes, gives}
+use Rattle.css_vm.specs.Events.{Along, IsStop}
+
+-- the instructions that leave the next place to themselves
+abbrev pub goes_on : Op → Bool
+goes_on (ops.Jump to) = false
+goes_on (ops.Jumpz to) = false
+goes_on (ops.Out c) = false
+goes_on ops.Ret = false
+goes_on _ = true
+
+-- the instructions that only change the stack
+abbrev pub is_silent : Op → Bool
+is_silent ops.Load32s = false
+is_silent ops.Store32 = false
+is_silent ops.Divs = false
+is_silent ops.Rems = false
+is_silent op = goes_on op
+
+-- those of them that need no more room
+abbrev pub needs_no_room : Op → Bool
+needs_no_room (ops.Push v) = false
+needs_no_room (ops.Dup n) = false
+needs_no_room (ops.Frame k) = false
+needs_no_room op = is_silent op
+
+-- An instruction makes one stack of another, in each world, and goes on at the next place.
+pub record Changes (op : Op) (base : ℕ) (old new : List ℕ) : Type 0 where
+  pub does : (w : World) (f : Routine) (line place : ℕ) (tape : Tape) → effect w f line base place op old tape ≡ next w f line base place new tape
+  pub height : length new ≡ length old - takes op + gives op
+
+-- the same, along the way from one space to another
+pub record Performs {S : Type 0} (reply : S → Action → Reply) (learn : S → Action → S) (op : Op) (base : ℕ) (old : List ℕ) (space : S) (new : List ℕ) (space' : S) : Type 0 where
+  pub does : (f : Routine) (line place : ℕ) → Along reply learn space space' (λ w tape later. effect w f line base place op old tape ≡ next w f line base place new later)
+  pub height : length new ≡ length old - takes op + gives op
+
+-- an instruction stops along that way
+pub record Halts {S : Type 0} (reply : S → Action → Reply) (learn : S → Action → S) (op : Op) (base : ℕ) (old : List ℕ) (space : S) (stop : Stop) (space' : S) : Type 0 where
+  pub stops : (f : Routine) (line place : ℕ) → Along reply learn space space' (λ w tape later. IsStop stop line (effect w f line base place op old tape) later)

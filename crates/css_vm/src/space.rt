@@ -1,0 +1,51 @@
+//! The memory that a machine runs over.
+ghost use Rattle.std.specs.Prelude.{◌≡◌, ℕ, IfOk, IfErr, OnOk, OnErr};
+ghost use Rattle.css_semantics.specs.Dialogue.{Action, Enter, Leave, Load, Store, Reply, Says, Fails, Ends};
+ghost use Rattle.css_semantics.specs.Memory.{big_endian_bytes};
+ghost use Rattle.css_vm.specs.Spaces.{bytes_of};
+
+use css_base::{FaultKind, Rule, Stop};
+
+/// How many bytes an access has.
+#[derive(Clone, Copy, PartialEq, Eq, Debug)]
+pub enum Width {
+    /// 1 byte.
+    W8,
+    /// 2 bytes.
+    W16,
+    /// 4 bytes.
+    W32,
+    /// 8 bytes.
+    W64,
+}
+
+/// A memory with a stack of frames. Its meaning is how it replies to the actions of a memory, and what it becomes. No call
+/// takes memory.
+pub trait Space {
+    ghost use Rattle.css_semantics.specs.Dialogue.{Action, Reply};
+
+    /// The reply to an action.
+    ghost reply: { Self → Action → Reply };
+
+    /// The space after an action.
+    ghost learn: { Self → Action → Self };
+
+    /// The big-endian value of the bytes from an address, without sign. OutsideMemory where they aren't wholly live.
+    fn load(&mut self, address: u32, width: Width) -> Result<u64, Stop>
+        ensures says { IfOk result (λ value. reply self.old (Load address (bytes_of width)) ≡ Says value) }
+        ensures fails { IfErr result (λ stop. (stop ≡ Stop.Fault FaultKind.OutsideMemory) × (reply self.old (Load address (bytes_of width)) ≡ Fails)) }
+        ensures learns { self.new ≡ learn self.old (Load address (bytes_of width)) };
+
+    /// Stores the low bytes of a value, big-endian. OutsideMemory where they aren't wholly live.
+    fn store(&mut self, address: u32, width: Width, value: u64) -> Result<(), Stop>
+        ensures says { OnOk result ((r : ℕ) × (reply self.old (Store address (big_endian_bytes (bytes_of width) value)) ≡ Says r)) }
+        ensures fails { IfErr result (λ stop. (stop ≡ Stop.Fault FaultKind.OutsideMemory) × (reply self.old (Store address (big_endian_bytes (bytes_of width) value)) ≡ Fails)) }
+        ensures learns { self.new ≡ learn self.old (Store address (big_endian_bytes (bytes_of width) value)) };
+
+    /// Enters a frame of zeros, and gives its base. MainStack where the stack has no room for it; then the space stays as it is.
+    fn push_frame(&mut self, size: u32) -> Result<u32, Stop>
+        ensures says { IfOk result (λ base. reply self.old (Enter size) ≡ Says base) }
+        ensures ends { IfErr result (λ stop. (stop ≡ Stop.Rule Rule.MainStack) × (reply self.old (Enter size) ≡ Ends)) }
+        ensures learns { OnOk result (self.new ≡ learn self.old (Enter size)) }
+        ensures stays { OnErr result (self.new ≡ self.old) };
+}
