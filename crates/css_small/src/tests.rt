@@ -15,38 +15,43 @@ fn write_expression(out: &mut String, e: &Expression) -> Result<(), AllocError> 
             write_expression(out, a)?;
             out.push_str(")")
         }
-        Expression::Binary(op, a, b) => {
-            write!(out, "({op:?} ")?;
-            write_operands(out, a, b)
-        }
-        Expression::And(a, b) => {
-            out.push_str("(&& ")?;
-            write_operands(out, a, b)
-        }
-        Expression::Or(a, b) => {
-            out.push_str("(|| ")?;
-            write_operands(out, a, b)
+        Expression::Binary(_, a, b) | Expression::And(a, b) | Expression::Or(a, b) => {
+            write_operator(out, e)?;
+            write_expression(out, a)?;
+            out.push_str(" ")?;
+            write_expression(out, b)?;
+            out.push_str(")")
         }
     }
 }
 
-fn write_operands(out: &mut String, a: &Expression, b: &Expression) -> Result<(), AllocError> {
-    write_expression(out, a)?;
-    out.push_str(" ")?;
-    write_expression(out, b)?;
-    out.push_str(")")
-}
-
-/// Writes statements, each with its line.
-fn write_statements(out: &mut String, statements: &[Statement]) -> Result<(), AllocError> {
-    for statement in statements {
-        write_statement(out, statement)?;
-        out.push_str(" ")?;
+/// Writes what stands before the two operands.
+fn write_operator(out: &mut String, e: &Expression) -> Result<(), AllocError> {
+    match e {
+        Expression::Binary(op, _, _) => write!(out, "({op:?} "),
+        Expression::And(_, _) => out.push_str("(&& "),
+        Expression::Or(_, _) => out.push_str("(|| "),
+        _ => Ok(()),
     }
-    Ok(())
 }
 
+/// Writes a statement with its line.
 fn write_statement(out: &mut String, statement: &Statement) -> Result<(), AllocError> {
+    match statement {
+        Statement::Block { line, statements } => {
+            write!(out, "{}:{{ ", line.number())?;
+            for inner in statements {
+                write_statement(out, inner)?;
+                out.push_str(" ")?;
+            }
+            out.push_str("}")
+        }
+        _ => write_simple(out, statement),
+    }
+}
+
+/// Writes a statement in which no other stands, with its line.
+fn write_simple(out: &mut String, statement: &Statement) -> Result<(), AllocError> {
     match statement {
         Statement::Declare { line, variable } => write!(out, "{}:int v{variable}", line.number()),
         Statement::Initialise {
@@ -74,11 +79,7 @@ fn write_statement(out: &mut String, statement: &Statement) -> Result<(), AllocE
             write!(out, "{}:return ", line.number())?;
             write_expression(out, value)
         }
-        Statement::Block { line, statements } => {
-            write!(out, "{}:{{ ", line.number())?;
-            write_statements(out, statements.as_slice())?;
-            out.push_str("}")
-        }
+        Statement::Block { line, .. } => write!(out, "{}:block", line.number()),
     }
 }
 
@@ -87,7 +88,10 @@ fn read(alloc: Global, text: &str) -> Result<String, Fail> {
     let mut out = String::new(alloc);
     match read_program(alloc, text.as_bytes()) {
         Ok(program) => {
-            write_statements(&mut out, program.body.as_slice())?;
+            for statement in &program.body {
+                write_statement(&mut out, statement)?;
+                out.push_str(" ")?;
+            }
             write!(
                 &mut out,
                 "{}-{} {}",
@@ -158,15 +162,15 @@ fn bodies(rt: HostRuntime) -> Result<(), Fail> {
         ("\nint main\n(void)\n{\n}", "2-5 0"),
         (
             "int main(void){;{};{{}}}",
-            "1:; 1:{ } 1:; 1:{ 1:{ } }  1-1 0",
+            "1:; 1:{ } 1:; 1:{ 1:{ } } 1-1 0",
         ),
         (
             "int main(void){int x;int y=x;y\n=\nx;return\ny;}",
-            "1:int v0 1:int v1=v0 1:v1=v0 3:return v1 4-4 2",
+            "1:int v0 1:int v1=v0 1:v1=v0 3:return v1 1-4 2",
         ),
         (
             "int main(void){int a;\n{\na=1;\nputchar\n(a);}\n}",
-            "1:int v0 2:{ 3:v0=1 4:put v0 }  1-6 1",
+            "1:int v0 2:{ 3:v0=1 4:put v0 } 1-6 1",
         ),
         (
             "int main(void){int main;int x=x;int putchars;main=putchars;}",
@@ -262,7 +266,7 @@ fn nested(
     Ok(text)
 }
 
-/// 200 open brackets, 500 levels and 1,000,000 tokens are read, and one more is not.
+/// 200 open brackets, 500 levels, 1,000,000 tokens and 4,194,304 bytes are read, and one more is not.
 #[test]
 fn limits(rt: HostRuntime) -> Result<(), Fail> {
     let alloc = rt.alloc();
@@ -274,20 +278,15 @@ fn limits(rt: HostRuntime) -> Result<(), Fail> {
         (["int x=", "~", "1", "", ";"], 496),
         (["int x=1", "+1", "", "", ";"], 496),
         // Main, its block, an assignment as a statement and as an expression, 495 operators and the variable.
-        (["int x;x=", "-", "x", "", ";"], 495),
-        // Main, its block, 50 more, a call as a statement and as an expression, 445 operators and the constant.
-        (
-            [
-                "{{{{{{{{{{{{{{{{{{{{{{{{{{{{{{{{{{{{{{{{{{{{{{{{{{putchar(1",
-                "-1",
-                "",
-                "",
-                ");}}}}}}}}}}}}}}}}}}}}}}}}}}}}}}}}}}}}}}}}}}}}}}}}}}}}",
-            ],
-            445,
-        ),
+        (["int x;x=", "~", "x", "", ";"], 495),
+        // Main, its block, the return, 496 operators and the constant.
+        (["return ", "!", "1", "", ";"], 496),
+        // Main, its block, ten more, a call as a statement and as an expression, 485 operators and the constant.
+        (["{{{{{{{{{{putchar(1", "-1", "", "", ");}}}}}}}}}}"], 485),
         // Main has seven tokens of its own.
         (["", ";", "", "", ""], 999_993),
+        // Main has sixteen bytes of its own.
+        (["", " ", "", "", ""], 4_194_288),
     ] {
         for (count, want) in [(most, true), (most + 1, false)] {
             let text = nested(alloc, parts, count)?;
