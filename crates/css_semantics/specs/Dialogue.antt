@@ -2,11 +2,16 @@
 use Rattle.std.specs.Prelude.{ℕ, ℤ, List, [], ◌∷◌, ◌++◌}
 use Rattle.css_base.specs.declared.ending.FaultKind.{FaultKind}
 use Rattle.css_base.specs.declared.ending.FaultKind.TheVariants.{OutsideMemory}
+use Rattle.css_base.specs.declared.ending.Stop.{Stop}
+use Rattle.css_base.specs.declared.ending.Stop.TheVariants as stops
+use Rattle.css_base.specs.declared.rule.Rule.{Rule}
 
 -- one thing that a program asks or does
 pub data Action : Type 0 where
   -- enters a function with a frame of so many bytes; the reply is the frame's base
   Enter : (size : ℕ) → Action
+  -- enters the body of a loop
+  Turn : Action
   -- leaves the frame of so many bytes at this base
   Leave : (base size : ℕ) → Action
   -- loads so many bytes; the reply is their big-endian value without sign
@@ -29,28 +34,31 @@ pub record Item : Type 0 where
 abbrev pub Tape : Type 0
 Tape = List Item
 
--- the world's reply: go on with this value, or the access isn't wholly live, or the dialogue is over at the item, which is the
--- last on the tape
+-- the world's reply: go on with this value, or the access isn't wholly live, or a rule refuses what is asked
 pub data Reply : Type 0 where
   Says : (value : ℕ) → Reply
   Fails : Reply
-  Ends : Reply
+  Refuses : (rule : Rule) → Reply
 
 -- a world replies to what is asked now, after all that was asked before
 abbrev pub World : Type 0
 World = Tape → Item → Reply
 
--- why a dialogue stops before there is a value: the world ended it, the program is at fault in a line, or the fuel is spent by
--- which a definition ends
+-- why a dialogue stops before there is a value: at a fault or by a rule, in a line, or because the fuel is spent by which a
+-- definition ends
 pub data Reason : Type 0 where
-  Over : Reason
-  Faulted : (kind : FaultKind) (line : ℕ) → Reason
+  Stopped : (stop : Stop) (line : ℕ) → Reason
   Tired : Reason
 
 -- a value, or why there is none, with the tape
 pub data Outcome (A : Type 0) : Type 0 where
   Goes : (value : A) (tape : Tape) → Outcome A
   Stops : (why : Reason) (tape : Tape) → Outcome A
+
+-- the tape of an outcome
+abbrev pub tape_of : {A : Type 0} → Outcome A → Tape
+tape_of (Goes value tape) = tape
+tape_of (Stops why tape) = tape
 
 -- goes on from a value
 abbrev pub then_do : {A B : Type 0} → Outcome A → (A → Tape → Outcome B) → Outcome B
@@ -62,16 +70,17 @@ item action line = record { action = action; line = line }
 
 -- the program is at fault, which stands on the tape
 abbrev pub fault : {A : Type 0} → FaultKind → ℕ → Tape → Outcome A
-fault kind line tape = Stops (Faulted kind line) (item (Fault kind) line ∷ tape)
+fault kind line tape = Stops (Stopped (stops.Fault kind) line) (item (Fault kind) line ∷ tape)
 
-abbrev pub replied : Reply → ℕ → Tape → Outcome ℕ
-replied (Says value) line tape = Goes value tape
-replied Fails line tape = fault OutsideMemory line tape
-replied Ends line tape = Stops Over tape
+-- what comes of an item behind a tape: one that a rule refuses isn't done, and doesn't stand on the tape
+abbrev pub replied : Reply → Item → Tape → Outcome ℕ
+replied (Says value) i tape = Goes value (i ∷ tape)
+replied Fails i tape = fault OutsideMemory i.line (i ∷ tape)
+replied (Refuses rule) i tape = Stops (Stopped (stops.Rule rule) i.line) tape
 
 -- asks one thing, in a line
 abbrev pub ask : World → Action → ℕ → Tape → Outcome ℕ
-ask w action line tape = replied (w tape (item action line)) line (item action line ∷ tape)
+ask w action line tape = replied (w tape (item action line)) (item action line) tape
 
 -- asks one thing, and goes on with a value of one's own
 abbrev pub tell : {A : Type 0} → World → Action → ℕ → A → Tape → Outcome A

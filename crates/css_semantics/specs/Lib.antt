@@ -1,4 +1,5 @@
 pub mod Dialogue
 pub mod Worlds
+pub mod Units
 pub mod Memory
 pub mod Flat

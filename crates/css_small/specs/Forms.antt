@@ -3,7 +3,7 @@ use Rattle.std.specs.Prelude.{List, ℕ, codes, Option, Some, None, if◌then◌
 use Rattle.css_base.specs.Tokens.{Kind, Word, Punctuator}
 use Rattle.css_small.specs.declared.parser.statements.Form.{Form}
 use Rattle.css_small.specs.declared.parser.statements.Form.TheVariants as forms
-use Rattle.css_small.specs.Tree.{Statement, Declare, Initialise, Empty, Assign, Put, Return, Block}
+use Rattle.css_small.specs.Tree.{Statement, Declare, Initialise, Empty, Assign, Put, Return, Block, If, IfElse, While}
 
 unfoldable pub form_of_punctuator : List ℕ → Option Form
 form_of_punctuator bytes =
@@ -13,7 +13,9 @@ unfoldable pub form_of_word : List ℕ → Form
 form_of_word bytes =
     if bytes_eq bytes (codes "putchar") then forms.Put
     else (if bytes_eq bytes (codes "return") then forms.Return
-    else (if bytes_eq bytes (codes "int") then forms.Declaration else forms.Assignment))
+    else (if bytes_eq bytes (codes "int") then forms.Declaration
+    else (if bytes_eq bytes (codes "if") then forms.If
+    else (if bytes_eq bytes (codes "while") then forms.While else forms.Assignment))))
 
 -- what begins with a token
 abbrev pub form_of : Kind → Option Form
@@ -30,6 +32,9 @@ form (Assign line k e) = forms.Assignment
 form (Put line e) = forms.Put
 form (Return line e) = forms.Return
 form (Block line all) = forms.Block
+form (If line e s) = forms.If
+form (IfElse line e s other) = forms.If
+form (While line e s) = forms.While
 
 -- the line of a statement
 abbrev pub line_in : Statement → ℕ
@@ -40,3 +45,6 @@ line_in (Assign line k e) = line
 line_in (Put line e) = line
 line_in (Return line e) = line
 line_in (Block line all) = line
+line_in (If line e s) = line
+line_in (IfElse line e s other) = line
+line_in (While line e s) = line

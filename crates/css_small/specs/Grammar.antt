@@ -2,6 +2,7 @@
 --   program := "int" "main" "(" "void" ")" "{" { decl | stmt } "}"
 --   decl    := "int" NAME [ "=" expr ] ";"
 --   stmt    := "{" { stmt } "}" | ";" | NAME "=" expr ";" | "putchar" "(" expr ")" ";" | "return" expr ";"
+--            | "if" "(" expr ")" stmt [ "else" stmt ] | "while" "(" expr ")" stmt
 --   expr    := the binary levels of C99 6.5.5 to 6.5.14, each left to right, over the unary operators + - ~ !,
 --              NAME, NUMBER, "(" expr ")"
 use Rattle.std.specs.Prelude.{◌≡◌, ℕ, ◌+◌, ◌-◌, ◌<◌, ◌≤◌, ◌⊎◌, List, [], ◌∷◌, ◌++◌, length, map, fold, codes, Contains, Option, Some, None, slice_get, Bool, false, if◌then◌else◌, bytes_eq}
@@ -13,7 +14,7 @@ use Rattle.css_num.specs.declared.operators.UnOp.{UnOp}
 use Rattle.css_num.specs.declared.operators.UnOp.TheVariants as unary
 use Rattle.css_num.specs.declared.operators.BinOp.{BinOp}
 use Rattle.css_num.specs.declared.operators.BinOp.TheVariants as binary
-use Rattle.css_small.specs.Tree.{Expression, Number, Variable, Unary, Binary, And, Or, Statement, Declare, Initialise, Empty, Assign, Put, Return, Block, Statements, End, More, Program, height_of_program}
+use Rattle.css_small.specs.Tree.{Expression, Number, Variable, Unary, Binary, And, Or, Statement, Declare, Initialise, Empty, Assign, Put, Return, Block, If, IfElse, While, Statements, End, More, Program, takes_else, height_of_program}
 use Rattle.css_small.specs.Spelling.{SpellsTokens, line_of}
 
 -- ---- tokens
@@ -126,6 +127,10 @@ pub record Encloses (names : List (List ℕ)) (ts : List Lexeme) (front : List K
 abbrev pub semicolon : List Kind
 semicolon = Punctuator (codes ";") ∷ []
 
+-- a header: a keyword and an expression in parentheses
+abbrev pub SpellsHeader : List (List ℕ) → List Lexeme → List ℕ → Expression → ℕ → Type 0
+SpellsHeader names ts keyword e line = Encloses names ts (Word keyword ∷ Punctuator (codes "(") ∷ []) e (Punctuator (codes ")") ∷ []) line
+
 abbrev mutual
   pub SpellsStatement : List (List ℕ) → List Lexeme → Statement → Type 0
   SpellsStatement names ts (Declare line k) = ⊥
@@ -139,6 +144,15 @@ abbrev mutual
   SpellsStatement names ts (Block line all) =
       (opens : Lexeme) × (us : List Lexeme) × (closes : Lexeme) × (ts ≡ opens ∷ us ++ closes ∷ [])
       × (kind_at opens ≡ Punctuator (codes "{")) × (kind_at closes ≡ Punctuator (codes "}")) × (line_of opens ≡ line) × SpellsStatements names us all
+
+  SpellsStatement names ts (If line e s) =
+      (head : List Lexeme) × (us : List Lexeme) × (ts ≡ head ++ us) × SpellsHeader names head (codes "if") e line × SpellsStatement names us s
+  SpellsStatement names ts (IfElse line e s other) =
+      (head : List Lexeme) × (us : List Lexeme) × (word : Lexeme) × (vs : List Lexeme) × (ts ≡ head ++ us ++ word ∷ vs)
+      × SpellsHeader names head (codes "if") e line × SpellsStatement names us s × (takes_else s ≡ false)
+      × (kind_at word ≡ Word (codes "else")) × SpellsStatement names vs other
+  SpellsStatement names ts (While line e s) =
+      (head : List Lexeme) × (us : List Lexeme) × (ts ≡ head ++ us) × SpellsHeader names head (codes "while") e line × SpellsStatement names us s
 
   pub SpellsStatements : List (List ℕ) → List Lexeme → Statements → Type 0
   SpellsStatements names ts End = ts ≡ []

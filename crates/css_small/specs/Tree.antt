@@ -1,5 +1,5 @@
 -- Programs as plain data.
-use Rattle.std.specs.Prelude.{ℕ, ◌+◌, max, List, [], ◌∷◌}
+use Rattle.std.specs.Prelude.{ℕ, ◌+◌, max, List, [], ◌∷◌, Bool, true, false}
 use Rattle.css_num.specs.declared.operators.UnOp.{UnOp}
 use Rattle.css_num.specs.declared.operators.BinOp.{BinOp}
 use Rattle.css_small.specs.declared.tree.Expression as code
@@ -25,6 +25,9 @@ mutual
     Put : (line : ℕ) (e : Expression) → Statement
     Return : (line : ℕ) (e : Expression) → Statement
     Block : (line : ℕ) (all : Statements) → Statement
+    If : (line : ℕ) (e : Expression) (s : Statement) → Statement
+    IfElse : (line : ℕ) (e : Expression) (s other : Statement) → Statement
+    While : (line : ℕ) (e : Expression) (s : Statement) → Statement
 
   pub data Statements : Type 0 where
     End : Statements
@@ -56,6 +59,9 @@ abbrev mutual
   statement (coded.Put line e) = Put line (expression e)
   statement (coded.Return line e) = Return line (expression e)
   statement (coded.Block' line shape all) = Block line (statements all)
+  statement (coded.If' line e p s) = If line (expression e) (statement s)
+  statement (coded.IfElse' line e p s q other) = IfElse line (expression e) (statement s) (statement other)
+  statement (coded.While' line e p s) = While line (expression e) (statement s)
 
   pub statements : {m : _} → coded.Row_of-Statement m → Statements
   statements coded.end_of-Statement = End
@@ -68,6 +74,15 @@ listed (s ∷ ss) = More (statement s) (listed ss)
 
 abbrev pub program : whole.Program → Program
 program p = record { line = p.line; end = p.end; variables = p.variables; body = listed p.body.items }
+
+-- ---- the end of a statement
+
+-- The statement ends in an `if` without `else`, to which an `else` behind it belongs (C99 6.8.4.1).
+abbrev pub takes_else : Statement → Bool
+takes_else (If line e s) = true
+takes_else (IfElse line e s other) = takes_else other
+takes_else (While line e s) = takes_else s
+takes_else s = false
 
 -- ---- levels: one for main, for its block, and for each statement, declaration and node of an expression on the way down
 
@@ -89,6 +104,9 @@ abbrev mutual
   height_of_statement (Put line e) = 2 + height e
   height_of_statement (Return line e) = 1 + height e
   height_of_statement (Block line all) = 1 + height_of_statements all
+  height_of_statement (If line e s) = 1 + max (height e) (height_of_statement s)
+  height_of_statement (IfElse line e s other) = 1 + max (height e) (max (height_of_statement s) (height_of_statement other))
+  height_of_statement (While line e s) = 1 + max (height e) (height_of_statement s)
 
   pub height_of_statements : Statements → ℕ
   height_of_statements End = 0

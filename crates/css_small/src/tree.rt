@@ -18,7 +18,7 @@ pub enum Expression {
     Or(Box<Expression>, Box<Expression>),
 }
 
-/// A statement or declaration, with the line of its first token.
+/// A statement or declaration, with the line of its first token. An `else` belongs to the nearest `if` (C99 6.8.4.1).
 #[derive(Drop, Debug)]
 pub enum Statement {
     /// `int x;`
@@ -56,6 +56,25 @@ pub enum Statement {
     Block {
         line: Line,
         statements: Vec<Statement>,
+    },
+    /// `if (e) s`
+    If {
+        line: Line,
+        condition: Expression,
+        body: Box<Statement>,
+    },
+    /// `if (e) s else t`
+    IfElse {
+        line: Line,
+        condition: Expression,
+        body: Box<Statement>,
+        other: Box<Statement>,
+    },
+    /// `while (e) s`
+    While {
+        line: Line,
+        condition: Expression,
+        body: Box<Statement>,
     },
 }
 

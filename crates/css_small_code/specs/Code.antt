@@ -11,7 +11,7 @@ use Rattle.css_vm.specs.declared.code.Conversion.TheVariants as conversions
 use Rattle.css_vm.specs.declared.code.ShiftWidth.TheVariants as shifts
 use Rattle.css_vm.specs.declared.code.Narrow.TheVariants as narrows
 use Rattle.css_vm.specs.Code.{Routine, first_line}
-use Rattle.css_small.specs.Tree.{Expression, Number, Variable, Unary, Binary, And, Or, Statement, Declare, Initialise, Empty, Assign, Put, Return, Block, Statements, End, More, Program}
+use Rattle.css_small.specs.Tree.{Expression, Number, Variable, Unary, Binary, And, Or, Statement, Declare, Initialise, Empty, Assign, Put, Return, Block, If, IfElse, While, Statements, End, More, Program}
 use Rattle.css_small_code.specs.Meaning.{place_of, frame_of}
 
 -- a result of 64 bits as an int
@@ -87,6 +87,23 @@ abbrev mutual
   statement_code (Put line e) at = in_line line (expression_code e at ++ ops.Out conversions.Char ∷ ops.Drop ∷ [])
   statement_code (Return line e) at = in_line line (expression_code e at ++ ops.Ret ∷ [])
   statement_code (Block line all) at = statements_code all at
+  statement_code (If line e s) at =
+      let ce = expression_code e at in
+      let first = at + length ce + 1 in
+      let cs = statement_code s first in
+      in_line line (ce ++ ops.Jumpz (first + length cs) ∷ []) ++ cs
+  statement_code (IfElse line e s other) at =
+      let ce = expression_code e at in
+      let first = at + length ce + 1 in
+      let cs = statement_code s first in
+      let second = first + length cs + 1 in
+      let co = statement_code other second in
+      in_line line (ce ++ ops.Jumpz second ∷ []) ++ cs ++ in_line line (ops.Jump (second + length co) ∷ []) ++ co
+  statement_code (While line e s) at =
+      let ce = expression_code e at in
+      let first = at + length ce + 2 in
+      let cs = statement_code s first in
+      in_line line (ce ++ ops.Jumpz (first + length cs + 1) ∷ ops.Turn ∷ []) ++ cs ++ in_line line (ops.Jump at ∷ [])
 
   pub statements_code : Statements → ℕ → List Instr
   statements_code End at = []

@@ -1,7 +1,7 @@
 -- Where a statement's code begins.
 use Rattle.std.specs.Prelude.{ℕ, Option, Some, None}
 use Rattle.std.specs.Option.{option_or}
-use Rattle.css_small.specs.Tree.{Statement, Declare, Initialise, Empty, Assign, Put, Return, Block, Statements, End, More}
+use Rattle.css_small.specs.Tree.{Statement, Declare, Initialise, Empty, Assign, Put, Return, Block, If, IfElse, While, Statements, End, More}
 
 -- the line of the first instruction of a statement or of statements, if they have any
 abbrev mutual
@@ -13,6 +13,9 @@ abbrev mutual
   line_in (Put line e) = Some line
   line_in (Return line e) = Some line
   line_in (Block line all) = line_in_all all
+  line_in (If line e s) = Some line
+  line_in (IfElse line e s other) = Some line
+  line_in (While line e s) = Some line
 
   pub line_in_all : Statements → Option ℕ
   line_in_all End = None

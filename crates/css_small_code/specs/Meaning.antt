@@ -1,14 +1,14 @@
 -- What a program means: the dialogue that it has with a world.
-use Rattle.std.specs.Prelude.{ℕ, ◌+◌, ◌*◌, ◌%◌, ◌^◌, ℤ, pos, [], ◌∷◌, Option, Some, None, Bool, not, if◌then◌else◌}
+use Rattle.std.specs.Prelude.{ℕ, zero, suc, ◌+◌, ◌*◌, ◌%◌, ◌^◌, ℤ, pos, [], ◌∷◌, Option, Some, None, Bool, not, if◌then◌else◌}
 use Rattle.std.specs.Ordering.{int_eq}
 use Rattle.css_base.specs.declared.int_type.IntType.TheVariants.{Int}
 use Rattle.css_base.specs.declared.ending.FaultKind.TheVariants.{DivideByZero}
 use Rattle.css_num.specs.Conversion.{modulo, representation, converted}
 use Rattle.css_num.specs.Operators.{truth_value, unary_value, binary_value}
-use Rattle.css_semantics.specs.Dialogue.{Enter, Leave, Load, Store, Out, End, Tape, World, Outcome, Goes, then_do, ask, fault}
+use Rattle.css_semantics.specs.Dialogue.{Enter, Turn, Leave, Load, Store, Out, End, Tape, World, Outcome, Goes, Stops, Tired, then_do, ask, fault}
 use Rattle.css_semantics.specs.Memory.{big_endian_bytes}
 use Rattle.css_small.specs.Tree as tree
-use Rattle.css_small.specs.Tree.{Expression, Number, Variable, Unary, Binary, And, Or, Statement, Declare, Initialise, Empty, Assign, Put, Return, Block, Statements, More, Program}
+use Rattle.css_small.specs.Tree.{Expression, Number, Variable, Unary, Binary, And, Or, Statement, Declare, Initialise, Empty, Assign, Put, Return, Block, If, IfElse, While, Statements, More, Program}
 
 -- Variables stand in order in main's frame, the first at the lowest address, each in 8 bytes, of which an int takes 4.
 abbrev pub place_of : ℕ → ℕ
@@ -59,7 +59,15 @@ abbrev pub on_next : (Tape → Outcome Flow) → Flow → Tape → Outcome Flow
 on_next go Next tape = go tape
 on_next go (Returned value line) tape = Goes (Returned value line) tape
 
-module _ (w : World) (base : ℕ) where
+-- A loop: while its condition is true, it enters its body, which asks for a turn. It makes at most so many turns.
+abbrev pub turning : World → (Tape → Outcome ℤ) → (Tape → Outcome Flow) → ℕ → ℕ → Tape → Outcome Flow
+turning w condition body line zero tape = Stops Tired tape
+turning w condition body line (suc n) tape =
+    then_do (condition tape) (λ v t.
+    if is_true v then then_do (ask w Turn line t) (λ r t'. then_do (body t') (on_next (turning w condition body line n))) else Goes Next t)
+
+-- in a world, with main's frame at a base, where each loop makes fewer turns than the fuel
+module _ (w : World) (base fuel : ℕ) where
   -- stores an expression's value in a variable
   abbrev pub assigned : ℕ → Expression → ℕ → Tape → Outcome Flow
   assigned k e line tape = then_do (value_of w base e line tape) (λ v t. then_do (store w base k v line t) (λ r t'. Goes Next t'))
@@ -74,6 +82,9 @@ module _ (w : World) (base : ℕ) where
         then_do (value_of w base e line tape) (λ v t. then_do (ask w (Out (modulo v 256 ∷ [])) line t) (λ r t'. Goes Next t'))
     meaning (Return line e) tape = then_do (value_of w base e line tape) (λ v t. Goes (Returned v line) t)
     meaning (Block line all) tape = meanings all tape
+    meaning (If line e s) tape = then_do (value_of w base e line tape) (λ v t. if is_true v then meaning s t else Goes Next t)
+    meaning (IfElse line e s other) tape = then_do (value_of w base e line tape) (λ v t. if is_true v then meaning s t else meaning other t)
+    meaning (While line e s) tape = turning w (value_of w base e line) (meaning s) line fuel tape
 
     pub meanings : Statements → Tape → Outcome Flow
     meanings tree.End tape = Goes Next tape
@@ -90,6 +101,6 @@ left w base frame end Next tape = leave w base frame (pos 0) end tape
 left w base frame end (Returned v line) tape = leave w base frame v line tape
 
 -- the program's dialogue, from main's entry
-abbrev pub source : World → Program → Outcome ℤ
-source w p =
-    then_do (ask w (Enter (frame_of p)) p.line []) (λ base t. then_do (meanings w base p.body t) (left w base (frame_of p) p.end))
+abbrev pub source : World → ℕ → Program → Outcome ℤ
+source w fuel p =
+    then_do (ask w (Enter (frame_of p)) p.line []) (λ base t. then_do (meanings w base fuel p.body t) (left w base (frame_of p) p.end))

@@ -1,6 +1,6 @@
 -- What the front end knows of the numbers in a tree.
 use Rattle.std.specs.Prelude.{ℕ, ◌<◌, ◌≤◌}
-use Rattle.css_small.specs.Tree.{Expression, Number, Variable, Unary, Binary, And, Or, Statement, Declare, Initialise, Empty, Assign, Put, Return, Block, Statements, End, More, Program}
+use Rattle.css_small.specs.Tree.{Expression, Number, Variable, Unary, Binary, And, Or, Statement, Declare, Initialise, Empty, Assign, Put, Return, Block, If, IfElse, While, Statements, End, More, Program}
 
 -- constants are ints, and variables are among so many
 abbrev pub IsWithin : ℕ → Expression → Type 0
@@ -20,6 +20,10 @@ abbrev mutual
   AreWithin variables (Put line e) = IsWithin variables e
   AreWithin variables (Return line e) = IsWithin variables e
   AreWithin variables (Block line all) = AllWithin variables all
+
+  AreWithin variables (If line e s) = IsWithin variables e × AreWithin variables s
+  AreWithin variables (IfElse line e s other) = IsWithin variables e × AreWithin variables s × AreWithin variables other
+  AreWithin variables (While line e s) = IsWithin variables e × AreWithin variables s
 
   pub AllWithin : ℕ → Statements → Type 0
   AllWithin variables End = Unit {0}

@@ -4,8 +4,10 @@
 mod entry;
 mod expressions;
 mod instructions;
+mod laws;
 mod maker;
 mod operator_code;
 mod statements;
 
+pub use laws::{enough_fuel, more_fuel};
 pub use maker::make_code;

@@ -7,12 +7,13 @@ use Rattle.css_vm.specs.declared.code.Op.TheVariants as ops
 use Rattle.css_vm.specs.Code.{Routine}
 use Rattle.css_vm.specs.Machine.{effect, next}
 use Rattle.css_vm.specs.Soundness.{takes, gives}
-use Rattle.css_vm.specs.Events.{Along, IsStop}
+use Rattle.css_vm.specs.Events.{Along, StopsAt}
 
 -- the instructions that leave the next place to themselves
 abbrev pub goes_on : Op → Bool
 goes_on (ops.Jump to) = false
 goes_on (ops.Jumpz to) = false
+goes_on ops.Turn = false
 goes_on (ops.Out c) = false
 goes_on ops.Ret = false
 goes_on _ = true
@@ -42,6 +43,6 @@ pub record Performs {S : Type 0} (reply : S → Action → Reply) (learn : S →
   pub does : (f : Routine) (line place : ℕ) → Along reply learn space space' (λ w tape later. effect w f line base place op old tape ≡ next w f line base place new later)
   pub height : length new ≡ length old - takes op + gives op
 
--- an instruction stops along that way
-pub record Halts {S : Type 0} (reply : S → Action → Reply) (learn : S → Action → S) (op : Op) (base : ℕ) (old : List ℕ) (space : S) (stop : Stop) (space' : S) : Type 0 where
-  pub stops : (f : Routine) (line place : ℕ) → Along reply learn space space' (λ w tape later. IsStop stop line (effect w f line base place op old tape) later)
+-- an instruction stops
+pub record Halts {S : Type 0} (reply : S → Action → Reply) (learn : S → Action → S) (op : Op) (base : ℕ) (old : List ℕ) (space : S) (stop : Stop) : Type 0 where
+  pub stops : (f : Routine) (line place : ℕ) → (space' : S) × Along reply learn space space' (λ w tape later. StopsAt stop line (effect w f line base place op old tape) later)

@@ -1,7 +1,7 @@
 -- The stack machine's dialogue with a world, by its step table.
 use Rattle.std.specs.Prelude.{ℕ, ℤ, zero, suc, ◌+◌, ◌%◌, ◌^◌, List, [], ◌∷◌, Option, Some, None, slice_get, nat_eq, if◌then◌else◌}
 use Rattle.css_base.specs.declared.ending.FaultKind.TheVariants.{DivideByZero}
-use Rattle.css_semantics.specs.Dialogue.{Enter, Leave, Load, Store, Out, End, Tape, World, Outcome, Goes, Stops, Tired, then_do, ask, fault}
+use Rattle.css_semantics.specs.Dialogue.{Enter, Turn, Leave, Load, Store, Out, End, Tape, World, Outcome, Goes, Stops, Tired, then_do, ask, fault}
 use Rattle.css_semantics.specs.Memory.{big_endian_bytes}
 use Rattle.css_vm.specs.declared.code.Instr.{Instr}
 use Rattle.css_vm.specs.declared.code.Op.{Op}
@@ -101,6 +101,7 @@ module _ (w : World) (f : Routine) (line base place : ℕ) where
   effect (ops.Jump to) stack tape = Goes (On (At base to stack)) tape
   effect (ops.Jumpz to) stack tape =
       on_one stack tape (λ a rest. if nat_eq a 0 then Goes (On (At base to rest)) tape else next rest tape)
+  effect ops.Turn stack tape = then_do (ask w Turn line tape) (λ r t. next stack t)
   effect (ops.Out conversions.Char) stack tape =
       on_one stack tape (λ a rest. then_do (ask w (Out (a % 256 ∷ [])) line tape) (λ r t. next (r ∷ rest) t))
   effect ops.Ret stack tape = on_one stack tape (λ a rest. then_do (leaving w f.frame base a line tape) ended)

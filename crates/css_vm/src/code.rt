@@ -91,6 +91,8 @@ pub enum Op {
     Jump(u32),
     /// `a ->`: goes on at this place where a is 0.
     Jumpz(u32),
+    /// Takes a unit: the body of a loop is entered.
+    Turn,
     /// `a -> n`: writes the top, and gives the number of bytes.
     Out(Conversion),
     /// `a ->`: leaves the function with the top.

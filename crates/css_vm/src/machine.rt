@@ -3,6 +3,7 @@ ghost use Rattle.std.specs.Prelude.{◌≡◌, IfOk};
 ghost use Rattle.css_vm.specs.Machine.{Begin, answered, IsOwed};
 ghost use Rattle.css_vm.specs.Code.{routine};
 ghost use Rattle.css_vm.specs.Soundness.{Fits};
+ghost use Rattle.css_semantics.specs.Units.{with_units, metered, spending};
 ghost use Rattle.css_vm.specs.Events.{Reaches, Leaves, IsInside, base_of};
 
 use crate::activation::Activation;
@@ -51,16 +52,19 @@ impl Machine {
         }
     }
 
-    /// Takes the steps up to the next event. After `NoMemory`, which comes where the stack can't grow, and after `Ended` and
-    /// `Stopped` the machine isn't run again.
+    /// Takes the steps up to the next event. Each entry of a function and of a loop's body takes one of the units; where none is
+    /// left the rule on units stops the machine, but not where another rule does. After `NoMemory`, which comes where the stack
+    /// can't grow, and after `Ended` and `Stopped` the machine isn't run again.
     pub fn run_to_event<S: Space>(
         &mut self,
         code: &Function,
         space: &mut S,
+        units: &mut u64,
     ) -> Result<Event, NoMemory>
         requires { Fits (routine code.now) self.old }
-        ensures event { IfOk result (λ e. Reaches S.reply S.learn (routine code.now) self.old space.old e self.new space.new) }
-        ensures leaves { IfOk result (λ e. Leaves (routine code.now) self.old e self.new) }
+        ensures event { IfOk result (λ e. Reaches (metered S.reply) (spending S.learn) (routine code.now)
+            self.old (with_units space.old units.old) e self.new (with_units space.new units.new)) }
+        ensures leaves { IfOk result (λ e. Leaves (routine code.now) self.old units.old e self.new units.new) }
     {
         if !self.begun {
             match space.push_frame(code.frame) {

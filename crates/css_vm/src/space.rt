@@ -1,10 +1,10 @@
 //! The memory that a machine runs over.
 ghost use Rattle.std.specs.Prelude.{◌≡◌, ℕ, IfOk, IfErr, OnOk, OnErr};
-ghost use Rattle.css_semantics.specs.Dialogue.{Action, Enter, Leave, Load, Store, Reply, Says, Fails, Ends};
+ghost use Rattle.css_semantics.specs.Dialogue.{Action, Enter, Load, Store, Reply, Says};
 ghost use Rattle.css_semantics.specs.Memory.{big_endian_bytes};
-ghost use Rattle.css_vm.specs.Spaces.{bytes_of};
+ghost use Rattle.css_vm.specs.Spaces.{bytes_of, IsRefusal};
 
-use css_base::{FaultKind, Rule, Stop};
+use css_base::Stop;
 
 /// How many bytes an access has.
 #[derive(Clone, Copy, PartialEq, Eq, Debug)]
@@ -30,22 +30,27 @@ pub trait Space {
     /// The space after an action.
     ghost learn: { Self → Action → Self };
 
-    /// The big-endian value of the bytes from an address, without sign. OutsideMemory where they aren't wholly live.
+    /// The big-endian value of the bytes from an address, without sign. The fault OutsideMemory where they aren't wholly live, or
+    /// the rule that refuses the access; then the space stays as it is.
     fn load(&mut self, address: u32, width: Width) -> Result<u64, Stop>
         ensures says { IfOk result (λ value. reply self.old (Load address (bytes_of width)) ≡ Says value) }
-        ensures fails { IfErr result (λ stop. (stop ≡ Stop.Fault FaultKind.OutsideMemory) × (reply self.old (Load address (bytes_of width)) ≡ Fails)) }
-        ensures learns { self.new ≡ learn self.old (Load address (bytes_of width)) };
+        ensures refuses { IfErr result (λ stop. IsRefusal (reply self.old (Load address (bytes_of width))) stop) }
+        ensures learns { OnOk result (self.new ≡ learn self.old (Load address (bytes_of width))) }
+        ensures stays { OnErr result (self.new ≡ self.old) };
 
-    /// Stores the low bytes of a value, big-endian. OutsideMemory where they aren't wholly live.
+    /// Stores the low bytes of a value, big-endian. The fault OutsideMemory where they aren't wholly live, or the rule that refuses
+    /// the access; then the space stays as it is.
     fn store(&mut self, address: u32, width: Width, value: u64) -> Result<(), Stop>
         ensures says { OnOk result ((r : ℕ) × (reply self.old (Store address (big_endian_bytes (bytes_of width) value)) ≡ Says r)) }
-        ensures fails { IfErr result (λ stop. (stop ≡ Stop.Fault FaultKind.OutsideMemory) × (reply self.old (Store address (big_endian_bytes (bytes_of width) value)) ≡ Fails)) }
-        ensures learns { self.new ≡ learn self.old (Store address (big_endian_bytes (bytes_of width) value)) };
+        ensures refuses { IfErr result (λ stop. IsRefusal (reply self.old (Store address (big_endian_bytes (bytes_of width) value))) stop) }
+        ensures learns { OnOk result (self.new ≡ learn self.old (Store address (big_endian_bytes (bytes_of width) value))) }
+        ensures stays { OnErr result (self.new ≡ self.old) };
 
-    /// Enters a frame of zeros, and gives its base. MainStack where the stack has no room for it; then the space stays as it is.
+    /// Enters a frame of zeros, and gives its base. The rule that refuses the entry, where the stack has no room for it; then the
+    /// space stays as it is.
     fn push_frame(&mut self, size: u32) -> Result<u32, Stop>
         ensures says { IfOk result (λ base. reply self.old (Enter size) ≡ Says base) }
-        ensures ends { IfErr result (λ stop. (stop ≡ Stop.Rule Rule.MainStack) × (reply self.old (Enter size) ≡ Ends)) }
+        ensures refuses { IfErr result (λ stop. IsRefusal (reply self.old (Enter size)) stop) }
         ensures learns { OnOk result (self.new ≡ learn self.old (Enter size)) }
         ensures stays { OnErr result (self.new ≡ self.old) };
 }

@@ -9,9 +9,8 @@ use Rattle.css_base.specs.declared.ending.Stop.{Stop}
 use Rattle.css_base.specs.declared.ending.Stop.TheVariants as stops
 use Rattle.css_base.specs.declared.ending.Who.{Who}
 use Rattle.css_base.specs.declared.ending.Who.TheVariants as whose
-use Rattle.css_base.specs.declared.rule.Rule.TheVariants.{MainStack}
 use Rattle.css_base.specs.Labels.{static_label, rule_label, fault_label}
-use Rattle.css_semantics.specs.Dialogue.{Action, Enter, Tape, Reason, Over, Faulted, Tired, Outcome, Goes, Stops, output}
+use Rattle.css_semantics.specs.Dialogue.{Outcome, Goes, Stops, Stopped, Tired, tape_of, output}
 use Rattle.css_semantics.specs.Flat.{flat}
 use Rattle.css_small.specs.Tree.{Program}
 use Rattle.css_small.specs.Grammar.{Spells, IsNotBuilt}
@@ -65,35 +64,21 @@ ending_status (endings.Stopped s line w) = stop_status s
 abbrev pub memory : ℕ
 memory = 16777216
 
--- the tape of an outcome
-abbrev pub tape_of : {A : Type 0} → Outcome A → Tape
-tape_of (Goes value tape) = tape
-tape_of (Stops why tape) = tape
+-- The units of main: no option says otherwise.
+abbrev pub main_units : ℕ
+main_units = 4294967296
 
--- The ending at the item by which the world ended the dialogue: the entry of main, for which the stack has no room.
-abbrev pub ending_at : Action → ℕ → Option Ending
-ending_at (Enter size) line = Some (endings.Stopped (stops.Rule MainStack) line whose.Main)
-ending_at _ line = None
-
-abbrev pub ending_over : Tape → Option Ending
-ending_over [] = None
-ending_over (newest ∷ tape) = ending_at newest.action newest.line
-
--- How main ends where it has no result.
-abbrev pub ending_without : Reason → Tape → Option Ending
-ending_without (Faulted kind line) tape = Some (endings.Stopped (stops.Fault kind) line whose.Main)
-ending_without Over tape = ending_over tape
-ending_without Tired tape = None
-
--- How main ends.
+-- How main ends, if the fuel doesn't end it.
 abbrev pub ending_of : Outcome ℤ → Option Ending
 ending_of (Goes v tape) = Some (endings.Result v)
-ending_of (Stops why tape) = ending_without why tape
+ending_of (Stops (Stopped stop line) tape) = Some (endings.Stopped stop line whose.Main)
+ending_of (Stops Tired tape) = None
 
--- What a program does in the flat memory: its output and its ending.
+-- What a program does in the flat memory, with main's units: its output and its ending. More fuel than is enough changes nothing.
 pub record Runs (p : Program) (out : List ℕ) (ending : Ending) : Type 0 where
-  pub ending_is : ending_of (source (flat memory) p) ≡ Some ending
-  pub out_is : out ≡ output (tape_of (source (flat memory) p))
+  pub fuel : ℕ
+  pub ending_is : ending_of (source (flat memory main_units) fuel p) ≡ Some ending
+  pub out_is : out ≡ output (tape_of (source (flat memory main_units) fuel p))
 
 -- The answer of a program's run.
 pub record IsRunAnswer (p : Program) (a : Answer) : Type 0 where

@@ -4,7 +4,8 @@ use Rattle.css_base.specs.declared.ending.Ending.{Ending}
 use Rattle.css_semantics.specs.Dialogue.{Tape, Outcome, Goes, Stops, output}
 use Rattle.css_semantics.specs.Worlds.{state_after}
 use Rattle.css_semantics.specs.Memory.{Memory, after}
-use Rattle.css_semantics.specs.Flat.{flat}
+use Rattle.css_semantics.specs.Units.{Metered, with_units, spending}
+use Rattle.css_semantics.specs.Flat.{flat, no_frames}
 use Rattle.css_vm.specs.Code.{Routine}
 use Rattle.css_vm.specs.Machine.{State, Halt, Finished, exec, target}
 use Rattle.css_vm.specs.Events.{Falls}
@@ -18,20 +19,16 @@ abbrev pub halted : Outcome ℤ → Outcome Halt
 halted (Goes v tape) = Goes (Finished v) tape
 halted (Stops why tape) = Stops why tape
 
--- The dialogue of the code in the flat memory comes to this outcome.
-abbrev pub ComesTo : ℕ → Routine → Outcome ℤ → Type 0
-ComesTo memory f o = (n : ℕ) × (target (flat memory) f n ≡ halted o)
+-- The dialogue of the code in the flat memory, with so many units, comes to this outcome.
+abbrev pub ComesTo : ℕ → ℕ → Routine → Outcome ℤ → Type 0
+ComesTo memory units f o = (n : ℕ) × (target (flat memory units) f n ≡ halted o)
 
--- the flat memory before main's entry
-abbrev pub no_frames : ℕ → Memory
-no_frames memory = record { end = memory; stack = [] }
-
--- The run from a state and with a space comes to this outcome, after what the tape so far has written.
-pub record Running (memory : ℕ) (f : Routine) (o : Outcome ℤ) (state : State) (space : Memory) (written : List ℕ) : Type 0 where
+-- The run from a state, with a space and with units left, comes to this outcome, after what the tape so far has written.
+pub record Running (memory units : ℕ) (f : Routine) (o : Outcome ℤ) (state : State) (space : Metered Memory) (written : List ℕ) : Type 0 where
   pub steps : ℕ
   pub so_far : Tape
-  pub goes : exec (flat memory) f steps state so_far ≡ halted o
-  pub space_is : state_after after (no_frames memory) so_far ≡ space
+  pub goes : exec (flat memory units) f steps state so_far ≡ halted o
+  pub space_is : state_after (spending after) (with_units (no_frames memory) units) so_far ≡ space
   pub written_is : output so_far ≡ written
 
 -- One turn of the loop: the sink got some bytes, and wherever the run was on its way to an ending it still is. The rank falls, and
