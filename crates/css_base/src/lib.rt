@@ -1,8 +1,10 @@
 //! The types that every crate of the compiler and runtime shares.
 #![tactic(auto)]
 
+mod buffer;
 mod bytes;
 mod channel;
+mod direction;
 mod ending;
 mod int_type;
 mod limits;
@@ -13,8 +15,10 @@ mod static_fault;
 mod token;
 mod words;
 
+pub use buffer::Buffer;
 pub use bytes::Bytes;
 pub use channel::ChannelLine;
+pub use direction::Direction;
 pub use ending::{Ending, FaultKind, Stop, Who};
 pub use int_type::IntType;
 pub use limits::Limits;

@@ -1,6 +1,6 @@
 //! Each public call once, at values from the table of limits and the lists of rules.
 
-use crate::{Bytes, FaultKind, Limits, Line, Rule, StaticName, Words};
+use crate::{Buffer, Bytes, FaultKind, Limits, Line, Rule, StaticName, Words};
 use std::test::Fail;
 
 // Each limit at its ends and one past them, over the defaults.
@@ -85,6 +85,10 @@ fn values_are_kept(rt: HostRuntime) -> Result<(), Fail> {
     let bytes = Bytes::new(Vec::from_slice(alloc, b"abc")?);
     assert_eq!(rt; bytes.as_slice(), b"abc".as_slice());
     assert_eq!(rt; bytes.into_vec().as_slice(), b"abc".as_slice());
+    let buffer = Buffer::new(alloc, Vec::from_slice(alloc, b"abc")?)?;
+    let shared = buffer.share()?;
+    drop(buffer);
+    assert_eq!(rt; shared.bytes(), b"abc".as_slice());
     let words = Words::new(vec![in alloc; String::from_str(alloc, "cssrun")?]?);
     assert_eq!(rt; words.as_slice().len(), 1);
     assert_eq!(rt; words.as_slice()[0].as_str(), "cssrun");

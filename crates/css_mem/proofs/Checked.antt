@@ -7,7 +7,7 @@ use Rattle.css_vm.specs.declared.code.Op.TheVariants as ops
 use Rattle.css_vm.specs.Code.{Routine}
 use Rattle.css_vm.specs.Machine.{Begin}
 use Rattle.css_vm.specs.Effects.{goes_on}
-use Rattle.css_vm.specs.Soundness.{Spot, Leads, GoesOn, IsFine, IsSound, Fits, takes, gives, needs}
+use Rattle.css_vm.specs.Soundness.{Spot, Stays, Leads, GoesOn, IsFine, IsSound, Fits, takes, gives, needs}
 
 abbrev pub spot : ℕ → ℕ → Spot
 spot height rank = record { height = height; rank = rank }
@@ -19,10 +19,15 @@ is_next (Some next) s height = nat_eq next.height height && nat_lt next.rank s.r
 abbrev leads : List Spot → ℕ → Spot → ℕ → Bool
 leads plan place s height = is_next (slice_get plan place) s height
 
+abbrev has_height : Option Spot → ℕ → Bool
+has_height None height = false
+has_height (Some next) height = nat_eq next.height height
+
 abbrev goes : List Spot → ℕ → Spot → Op → Bool
 goes plan place s ops.Ret = true
 goes plan place s (ops.Jump to) = leads plan to s s.height
 goes plan place s (ops.Jumpz to) = leads plan to s (s.height - 1) && leads plan (place + 1) s (s.height - 1)
+goes plan place s ops.Turn = has_height (slice_get plan (place + 1)) s.height
 goes plan place s op = leads plan (place + 1) s (s.height - takes op + gives op)
 
 abbrev is_fine : List Spot → ℕ → Spot → Op → Bool
@@ -38,10 +43,15 @@ leads_by : (plan : List Spot) (place : ℕ) (s : Spot) (height : ℕ) (o : Optio
 leads_by plan place s height None at holds = absurd (cc)
 leads_by plan place s height (Some next) at holds = (next, at, eqb-true next.height height (and_parts _ _ holds).0, ltb-true next.rank s.rank (and_parts _ _ holds).1)
 
+stays_by : (plan : List Spot) (place height : ℕ) (o : Option Spot) → slice_get plan place ≡ o → has_height o height ≡ true → Stays plan place height
+stays_by plan place height None at holds = absurd (cc)
+stays_by plan place height (Some next) at holds = (next, at, eqb-true next.height height holds)
+
 goes_by : (plan : List Spot) (place : ℕ) (s : Spot) (op : Op) → goes plan place s op ≡ true → GoesOn plan place s op
 goes_by plan place s ops.Ret holds = tt
 goes_by plan place s (ops.Jump to) holds = leads_by plan to s s.height (slice_get plan to) refl holds
 goes_by plan place s (ops.Jumpz to) holds = (leads_by plan to s (s.height - 1) (slice_get plan to) refl (and_parts _ _ holds).0, leads_by plan (place + 1) s (s.height - 1) (slice_get plan (place + 1)) refl (and_parts _ _ holds).1)
+goes_by plan place s ops.Turn holds = stays_by plan (place + 1) s.height (slice_get plan (place + 1)) refl holds
 goes_by plan place s op holds = leads_by plan (place + 1) s (s.height - takes op + gives op) (slice_get plan (place + 1)) refl holds
 
 fine_by : (plan : List Spot) (place : ℕ) (s : Spot) (op : Op) → is_fine plan place s op ≡ true → IsFine plan place s op
@@ -70,13 +80,14 @@ each_fine plan most place (s' ∷ spots) (i ∷ is) holds (suc k) s at =
 pub fits_by : (f : Routine) (plan : List Spot) (rank : ℕ) → slice_get plan 0 ≡ Some (spot 0 rank) → are_fine plan (length f.body) 0 plan f.body ≡ true → Fits f Begin
 fits_by f plan rank first holds =
     let each : (place : ℕ) (s : Spot) → slice_get plan place ≡ Some s → HasInstr plan (length f.body) place f.body place s = λ place s at. subst (λ (n : ℕ). HasInstr plan (length f.body) n f.body place s) (zero-add place) (each_fine plan (length f.body) 0 plan f.body holds place s at) in
-    (plan, record { first = (rank, first); each = each }, (length f.body + 1, refl))
+    (plan, record { first = (rank, first); each = each }, (0, refl))
 
 -- ---- an instruction that leads on, where only the cells are known that it takes and gives
 
 goes_by_next : (plan : List Spot) (place : ℕ) (s : Spot) (op : Op) → IsTrue (goes_on op) → is_next (slice_get plan (place + 1)) s (s.height - takes op + gives op) ≡ true → goes plan place s op ≡ true
 goes_by_next plan place s (ops.Jump to) on holds = absurd (cc)
 goes_by_next plan place s (ops.Jumpz to) on holds = absurd (cc)
+goes_by_next plan place s ops.Turn on holds = absurd (cc)
 goes_by_next plan place s (ops.Out c) on holds = absurd (cc)
 goes_by_next plan place s ops.Ret on holds = absurd (cc)
 goes_by_next plan place s _ on holds = holds

@@ -13,6 +13,9 @@ use std::test::Fail;
 
 const SIZE: u32 = 2_097_152;
 
+// More units than any test takes but those of units.
+const UNITS: u64 = 1_000;
+
 const OUTSIDE: Stop = Stop::Fault(FaultKind::OutsideMemory);
 
 fn instr(op: Op, line: u32) -> Instr
@@ -116,12 +119,31 @@ fn writing(alloc: Global, frame: u32) -> Result<Function, NoMemory>
     Ok(Function { frame, body })
 }
 
+// Counts from 0 up to a limit, with a turn for each number, and returns where it comes to.
+fn counting(alloc: Global, limit: i64) -> Result<Function, NoMemory>
+    ensures { IfOk result (λ f. Fits (routine f) Begin) }
+{
+    let body = vec![in alloc;
+        instr(Op::Push(0), 2),
+        instr(Op::Dup(0), 3),
+        instr(Op::Push(limit), 3),
+        instr(Op::Lts, 3),
+        instr(Op::Jumpz(9), 3),
+        instr(Op::Turn, 4),
+        instr(Op::Push(1), 5),
+        instr(Op::Add, 5),
+        instr(Op::Jump(1), 5),
+        instr(Op::Ret, 6),
+    ]?;
+    Ok(Function { frame: 0, body })
+}
+
 // The event that code comes to, in a new memory.
-fn event_of(alloc: Global, code: &Function) -> Result<Event, NoMemory>
+fn event_of(alloc: Global, code: &Function, units: &mut u64) -> Result<Event, NoMemory>
     requires { Fits (routine code.now) Begin }
 {
     let mut memory = MainMemory::new(alloc, SIZE)?;
-    Machine::new(alloc).run_to_event(code, &mut memory)
+    Machine::new(alloc).run_to_event(code, &mut memory, units)
 }
 
 // Code returns this number, in this line.
@@ -134,24 +156,26 @@ fn expect_number(
 ) -> Result<(), Fail>
     requires { Fits (routine code.now) Begin }
 {
-    let Event::Ended(cell, at) = event_of(alloc, code)? else {
+    let mut units = UNITS;
+    let Event::Ended(cell, at) = event_of(alloc, code, &mut units)? else {
         panic!(rt; "it doesn't return");
     };
     assert_eq!(rt; (cell.cast_signed(), at.number()), (number, line));
     Ok(())
 }
 
-// Code stops, in this line.
+// With so many units code stops, in this line.
 fn expect_stop(
     rt: &impl Abort,
     alloc: Global,
     code: &Function,
+    mut units: u64,
     stop: Stop,
     line: u32,
 ) -> Result<(), Fail>
     requires { Fits (routine code.now) Begin }
 {
-    let Event::Stopped(found, at) = event_of(alloc, code)? else {
+    let Event::Stopped(found, at) = event_of(alloc, code, &mut units)? else {
         panic!(rt; "it doesn't stop");
     };
     assert_eq!(rt; (found, at.number()), (stop, line));
@@ -250,6 +274,7 @@ fn division(rt: HostRuntime) -> Result<(), Fail> {
         &rt,
         rt.alloc(),
         &binary(rt.alloc(), Op::Divs, 1, 0)?,
+        UNITS,
         by_zero,
         3,
     )?;
@@ -257,6 +282,7 @@ fn division(rt: HostRuntime) -> Result<(), Fail> {
         &rt,
         rt.alloc(),
         &binary(rt.alloc(), Op::Rems, 0, 0)?,
+        UNITS,
         by_zero,
         3,
     )
@@ -395,6 +421,7 @@ fn frames(rt: HostRuntime) -> Result<(), Fail> {
             &rt,
             rt.alloc(),
             &unary(rt.alloc(), Op::Load32s, address)?,
+            UNITS,
             OUTSIDE,
             line,
         )?;
@@ -403,6 +430,7 @@ fn frames(rt: HostRuntime) -> Result<(), Fail> {
         &rt,
         rt.alloc(),
         &binary(rt.alloc(), Op::Store32, 0, 1)?,
+        UNITS,
         OUTSIDE,
         3,
     )
@@ -422,12 +450,13 @@ fn output(rt: HostRuntime) -> Result<(), Fail> {
     let code = writing(rt.alloc(), 16)?;
     let mut memory = MainMemory::new(rt.alloc(), SIZE)?;
     let mut machine = Machine::new(rt.alloc());
-    let Event::Out(printed) = machine.run_to_event(&code, &mut memory)? else {
+    let mut units = UNITS;
+    let Event::Out(printed) = machine.run_to_event(&code, &mut memory, &mut units)? else {
         panic!(&rt; "it doesn't write");
     };
     assert_eq!(&rt; printed.as_slice(), b"A".as_slice());
     machine.answer(9);
-    let Event::Ended(cell, line) = machine.run_to_event(&code, &mut memory)? else {
+    let Event::Ended(cell, line) = machine.run_to_event(&code, &mut memory, &mut units)? else {
         panic!(&rt; "it doesn't return");
     };
     assert_eq!(&rt; (cell, line.number()), (9, 8));
@@ -435,13 +464,41 @@ fn output(rt: HostRuntime) -> Result<(), Fail> {
     Ok(())
 }
 
-// A frame may fill the stack, and no more.
+// The entry takes a unit, and so does each of three turns. Where none is left, the line is that of the entry or of the turn.
+#[test]
+fn units(rt: HostRuntime) -> Result<(), Fail> {
+    let code = counting(rt.alloc(), 3)?;
+    for (given, left) in [(9, 5), (4, 0)] {
+        let mut units = given;
+        let Event::Ended(cell, line) = event_of(rt.alloc(), &code, &mut units)? else {
+            panic!(&rt; "it doesn't return");
+        };
+        assert_eq!(&rt; (cell, line.number(), units), (3, 6, left));
+    }
+    for (given, line) in [(3, 4), (1, 4), (0, 2)] {
+        expect_stop(&rt, rt.alloc(), &code, given, Stop::Rule(Rule::Units), line)?;
+    }
+    Ok(())
+}
+
+// A frame may fill the stack, and no more; with no unit left that is still the rule that stops the run.
 #[test]
 fn stack_limit(rt: HostRuntime) -> Result<(), Fail> {
-    let full = event_of(rt.alloc(), &writing(rt.alloc(), 1_064_960)?)?;
+    let mut units = UNITS;
+    let full = event_of(rt.alloc(), &writing(rt.alloc(), 1_064_960)?, &mut units)?;
     assert!(&rt; matches!(&full, Event::Out(_)));
     let code = writing(rt.alloc(), 1_064_961)?;
-    expect_stop(&rt, rt.alloc(), &code, Stop::Rule(Rule::MainStack), 7)
+    for given in [UNITS, 0] {
+        expect_stop(
+            &rt,
+            rt.alloc(),
+            &code,
+            given,
+            Stop::Rule(Rule::MainStack),
+            7,
+        )?;
+    }
+    Ok(())
 }
 
 // Numbers lie with their highest byte first, and an access is live from the stack's first byte to the memory's end.

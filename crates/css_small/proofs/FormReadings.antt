@@ -3,13 +3,14 @@ use Rattle.std.proofs.Common.{◌≡◌, ℕ, ◌+◌, ◌<◌, ◌≤◌, max, 
 use Rattle.css_base.specs.Tokens.{Kind, Word, Punctuator, Lexeme}
 use Rattle.css_small.specs.declared.parser.statements.Form.{Form}
 use Rattle.css_small.specs.declared.parser.statements.Form.TheVariants as forms
-use Rattle.css_small.specs.Tree.{Expression, Statement, Declare, Initialise, Empty, Assign, Put, Return, Block, Statements, End, More, height_of_statement, height_of_statements}
+use Rattle.css_small.specs.Tree.{Expression, Statement, Declare, Initialise, Empty, Assign, Put, Return, Block, If, IfElse, While, Statements, End, More, height, height_of_statement, height_of_statements}
 use Rattle.css_small.specs.Spelling.{line_of}
 use Rattle.css_small.specs.Grammar.{kind_at}
 use Rattle.css_small.specs.Fronts.{Next, Takes, marks}
 use Rattle.css_small.specs.Forms.{form, form_of, line_in}
-use Rattle.css_small.proofs.Heights.{takes_no_longer, expression_shorter}
-use Rattle.css_small.specs.Readings.{Begins, ReadsEnclosed, ReadsRest, ReadsStatements, ReadsForm, ReadsStatement}
+use Rattle.css_small.proofs.Marks.{one_next}
+use Rattle.css_small.proofs.Heights.{next_shorter, takes_no_longer, expression_shorter}
+use Rattle.css_small.specs.Readings.{Begins, ReadsEnclosed, ReadsRest, ReadsStatements, ReadsForm, ReadsGuarded, ReadsStatement}
 
 pub statement_positive : (s : Statement) → 0 < height_of_statement s
 statement_positive (Declare line k) = omega arith
@@ -19,6 +20,9 @@ statement_positive (Assign line k e) = omega arith
 statement_positive (Put line e) = omega arith
 statement_positive (Return line e) = omega arith
 statement_positive (Block line all) = omega arith
+statement_positive (If line e s) = omega arith
+statement_positive (IfElse line e s other) = omega arith
+statement_positive (While line e s) = omega arith
 
 -- ---- between a statement and its form
 
@@ -64,6 +68,9 @@ no_declaration names (Assign line k e) r = absurd (let f = r.form_is in cc)
 no_declaration names (Put line e) r = absurd (let f = r.form_is in cc)
 no_declaration names (Return line e) r = absurd (let f = r.form_is in cc)
 no_declaration names (Block line all) r = absurd (let f = r.form_is in cc)
+no_declaration names (If line e s) r = absurd (let f = r.form_is in cc)
+no_declaration names (IfElse line e s other) r = absurd (let f = r.form_is in cc)
+no_declaration names (While line e s) r = absurd (let f = r.form_is in cc)
 
 -- ---- the parts of each form
 
@@ -80,6 +87,9 @@ put_parts names (Empty line) r = absurd (let f = r.form_is in cc)
 put_parts names (Assign line k e) r = absurd (let f = r.form_is in cc)
 put_parts names (Return line e) r = absurd (let f = r.form_is in cc)
 put_parts names (Block line all) r = absurd (let f = r.form_is in cc)
+put_parts names (If line e s) r = absurd (let f = r.form_is in cc)
+put_parts names (IfElse line e s other) r = absurd (let f = r.form_is in cc)
+put_parts names (While line e s) r = absurd (let f = r.form_is in cc)
 
 pub record IsReturn (names : List (List ℕ)) (line : ℕ) (ts : List Lexeme) (s : Statement) (rest : List Lexeme) : Type 0 where
   pub value : Expression
@@ -94,6 +104,9 @@ return_parts names (Empty line) r = absurd (let f = r.form_is in cc)
 return_parts names (Assign line k e) r = absurd (let f = r.form_is in cc)
 return_parts names (Put line e) r = absurd (let f = r.form_is in cc)
 return_parts names (Block line all) r = absurd (let f = r.form_is in cc)
+return_parts names (If line e s) r = absurd (let f = r.form_is in cc)
+return_parts names (IfElse line e s other) r = absurd (let f = r.form_is in cc)
+return_parts names (While line e s) r = absurd (let f = r.form_is in cc)
 
 pub record IsAssignment (names : List (List ℕ)) (line : ℕ) (kind : Kind) (ts : List Lexeme) (s : Statement) (rest : List Lexeme) : Type 0 where
   pub name : List ℕ
@@ -113,6 +126,9 @@ assignment_parts names (Empty line) r = absurd (let f = r.form_is in cc)
 assignment_parts names (Put line e) r = absurd (let f = r.form_is in cc)
 assignment_parts names (Return line e) r = absurd (let f = r.form_is in cc)
 assignment_parts names (Block line all) r = absurd (let f = r.form_is in cc)
+assignment_parts names (If line e s) r = absurd (let f = r.form_is in cc)
+assignment_parts names (IfElse line e s other) r = absurd (let f = r.form_is in cc)
+assignment_parts names (While line e s) r = absurd (let f = r.form_is in cc)
 
 pub record IsBlock (names : List (List ℕ)) (line : ℕ) (ts : List Lexeme) (s : Statement) (rest : List Lexeme) : Type 0 where
   pub all : Statements
@@ -129,6 +145,77 @@ block_parts names (Empty line) r = absurd (let f = r.form_is in cc)
 block_parts names (Assign line k e) r = absurd (let f = r.form_is in cc)
 block_parts names (Put line e) r = absurd (let f = r.form_is in cc)
 block_parts names (Return line e) r = absurd (let f = r.form_is in cc)
+block_parts names (If line e s) r = absurd (let f = r.form_is in cc)
+block_parts names (IfElse line e s other) r = absurd (let f = r.form_is in cc)
+block_parts names (While line e s) r = absurd (let f = r.form_is in cc)
+
+pub record IsWhile (names : List (List ℕ)) (line : ℕ) (ts : List Lexeme) (s : Statement) (rest : List Lexeme) : Type 0 where
+  pub value : Expression
+  pub body : Statement
+  pub is : s ≡ While line value body
+  pub reads : ReadsGuarded names ts value body rest
+
+pub while_parts : (names : List (List ℕ)) {line : ℕ} {kind : Kind} {ts rest : List Lexeme} (s : Statement) → ReadsForm names forms.While line kind ts s rest → IsWhile names line ts s rest
+while_parts names (While line e s) r =
+    let (next, first, behind, c, b, inner) = r.reads in
+    record { value = e; body = s; is = ap (λ n. While n e s) r.line_is; reads = record { behind = next; condition = c; guards = record { kind = first; behind = behind; begins = b; reads = inner } } }
+while_parts names (Declare line k) r = absurd r.reads
+while_parts names (Initialise line k e) r = absurd r.reads
+while_parts names (Empty line) r = absurd (let f = r.form_is in cc)
+while_parts names (Assign line k e) r = absurd (let f = r.form_is in cc)
+while_parts names (Put line e) r = absurd (let f = r.form_is in cc)
+while_parts names (Return line e) r = absurd (let f = r.form_is in cc)
+while_parts names (Block line all) r = absurd (let f = r.form_is in cc)
+while_parts names (If line e s) r = absurd (let f = r.form_is in cc)
+while_parts names (IfElse line e s other) r = absurd (let f = r.form_is in cc)
+
+-- the statement behind an `else`
+pub record HasElse (names : List (List ℕ)) (ts : List Lexeme) (s : Statement) (rest : List Lexeme) : Type 0 where
+  pub other : Statement
+  pub reads : ReadsStatement names ts other rest
+  pub lower : height_of_statement other < height_of_statement s
+
+pub record IsIf (names : List (List ℕ)) (ts : List Lexeme) (s : Statement) (rest : List Lexeme) : Type 0 where
+  pub value : Expression
+  pub body : Statement
+  pub middle : List Lexeme
+  pub reads : ReadsGuarded names ts value body middle
+  pub lower : max (height value) (height_of_statement body) < height_of_statement s
+  pub otherwise : (after : List Lexeme) → Next (Word (codes "else")) middle after → HasElse names after s rest
+
+pub if_parts : (names : List (List ℕ)) {line : ℕ} {kind : Kind} {ts rest : List Lexeme} (s : Statement) → ReadsForm names forms.If line kind ts s rest → IsIf names ts s rest
+if_parts names {rest = rest} (If line e s) r =
+    let (next, first, behind, c, b, inner, none) = r.reads in
+    record {
+      value = e;
+      body = s;
+      middle = rest;
+      reads = record { behind = next; condition = c; guards = record { kind = first; behind = behind; begins = b; reads = inner } };
+      lower = omega arith;
+      otherwise = λ after n. absurd (none after n);
+    }
+if_parts names {rest = rest} (IfElse line e s other) r =
+    let (next, first, behind, middle, after, second, last, c, b, inner, word, d, outer) = r.reads in
+    record {
+      value = e;
+      body = s;
+      middle = middle;
+      reads = record { behind = next; condition = c; guards = record { kind = first; behind = behind; begins = b; reads = inner } };
+      lower = omega arith;
+      otherwise = λ here n. record {
+        other = other;
+        reads = subst (λ l. ReadsStatement names l other rest) (one_next word n) (record { kind = second; behind = last; begins = d; reads = outer });
+        lower = omega arith;
+      };
+    }
+if_parts names (Declare line k) r = absurd r.reads
+if_parts names (Initialise line k e) r = absurd r.reads
+if_parts names (Empty line) r = absurd (let f = r.form_is in cc)
+if_parts names (Assign line k e) r = absurd (let f = r.form_is in cc)
+if_parts names (Put line e) r = absurd (let f = r.form_is in cc)
+if_parts names (Return line e) r = absurd (let f = r.form_is in cc)
+if_parts names (Block line all) r = absurd (let f = r.form_is in cc)
+if_parts names (While line e s) r = absurd (let f = r.form_is in cc)
 
 -- ---- a statement takes tokens
 
@@ -155,6 +242,24 @@ module _ (names : List (List ℕ)) where
         let first = statements_no_longer all ts r.0 r.1 in
         let second = takes_no_longer (marks (codes "}")) r.0 rest r.2 in
         omega arith
+    rest_no_longer (If line e s) kind ts rest (next, first, behind, c, b, r, none) =
+        let condition = enclosed_no_longer names (marks (codes "(")) (marks (codes ")")) c in
+        let begun = begins_shorter b in
+        let inner = rest_no_longer s first behind rest r in
+        omega arith
+    rest_no_longer (IfElse line e s other) kind ts rest (next, first, behind, middle, after, second, last, c, b, r, word, d, q) =
+        let condition = enclosed_no_longer names (marks (codes "(")) (marks (codes ")")) c in
+        let begun = begins_shorter b in
+        let inner = rest_no_longer s first behind middle r in
+        let between = next_shorter word in
+        let started = begins_shorter d in
+        let outer = rest_no_longer other second last rest q in
+        omega arith
+    rest_no_longer (While line e s) kind ts rest (next, first, behind, c, b, r) =
+        let condition = enclosed_no_longer names (marks (codes "(")) (marks (codes ")")) c in
+        let begun = begins_shorter b in
+        let inner = rest_no_longer s first behind rest r in
+        omega arith
 
     pub statements_no_longer : (ss : Statements) (ts rest : List Lexeme) → ReadsStatements names ts ss rest → length rest ≤ length ts
     statements_no_longer End ts rest r = let l = ap length r in omega arith
@@ -168,4 +273,10 @@ pub statement_shorter : (names : List (List ℕ)) {s : Statement} {ts rest : Lis
 statement_shorter names {s} {ts} {rest} r =
     let first = begins_shorter r.begins in
     let second = rest_no_longer names s r.kind r.behind rest r.reads in
+    omega arith
+
+pub guarded_shorter : (names : List (List ℕ)) {ts rest : List Lexeme} {e : Expression} {s : Statement} → ReadsGuarded names ts e s rest → length rest < length ts
+guarded_shorter names r =
+    let condition = enclosed_no_longer names (marks (codes "(")) (marks (codes ")")) r.condition in
+    let guards = statement_shorter names r.guards in
     omega arith

@@ -3,7 +3,7 @@ use Rattle.std.proofs.Common.{◌≡◌, ℕ, ◌+◌, ◌<◌, ◌≤◌, max, 
 use Rattle.css_base.specs.Tokens.{Kind, Word, Punctuator, Lexeme}
 use Rattle.css_small.specs.declared.parser.statements.Form.{Form}
 use Rattle.css_small.specs.declared.parser.statements.Form.TheVariants as forms
-use Rattle.css_small.specs.Tree.{Expression, Statement, Declare, Initialise, Empty, Assign, Put, Return, Block, Statements, End, More, height, height_of_statement, height_of_statements}
+use Rattle.css_small.specs.Tree.{Expression, Statement, Declare, Initialise, Empty, Assign, Put, Return, Block, If, IfElse, While, Statements, End, More, height, height_of_statement, height_of_statements}
 use Rattle.css_small.specs.Spelling.{line_of}
 use Rattle.css_small.specs.Grammar.{kind_at, IsFresh}
 use Rattle.css_small.specs.Fronts.{Next, Takes, marks}
@@ -31,6 +31,9 @@ declared_name names after (Assign line k e) r = absurd (let f = r.form_is in cc)
 declared_name names after (Put line e) r = absurd (let f = r.form_is in cc)
 declared_name names after (Return line e) r = absurd (let f = r.form_is in cc)
 declared_name names after (Block line all) r = absurd (let f = r.form_is in cc)
+declared_name names after (If line e s) r = absurd (let f = r.form_is in cc)
+declared_name names after (IfElse line e s other) r = absurd (let f = r.form_is in cc)
+declared_name names after (While line e s) r = absurd (let f = r.form_is in cc)
 
 same_word : (a b : List ℕ) {ts us vs : List Lexeme} → Next (Word a) ts us → Next (Word b) ts vs → a ≡ b
 same_word a b n m = let same = not_both n m in cc
@@ -77,6 +80,9 @@ initialised names after new name (Assign line k e) r n is none = absurd (let f =
 initialised names after new name (Put line e) r n is none = absurd (let f = r.form_is in cc)
 initialised names after new name (Return line e) r n is none = absurd (let f = r.form_is in cc)
 initialised names after new name (Block line all) r n is none = absurd (let f = r.form_is in cc)
+initialised names after new name (If line e s) r n is none = absurd (let f = r.form_is in cc)
+initialised names after new name (IfElse line e s other) r n is none = absurd (let f = r.form_is in cc)
+initialised names after new name (While line e s) r n is none = absurd (let f = r.form_is in cc)
 
 -- ---- items by their first token
 
@@ -110,11 +116,14 @@ item_rest names (Assign line k e) kind ts rest r = (refl, r)
 item_rest names (Put line e) kind ts rest r = (refl, r)
 item_rest names (Return line e) kind ts rest r = (refl, r)
 item_rest names (Block line all) kind ts rest r = (refl, r)
+item_rest names (If line e s) kind ts rest r = (refl, r)
+item_rest names (IfElse line e s other) kind ts rest r = (refl, r)
+item_rest names (While line e s) kind ts rest r = (refl, r)
 
 pub item_of_statement : (names : List (List ℕ)) {ts rest : List Lexeme} {s : Statement} → ReadsStatement names ts s rest → ReadsItem names names ts s rest
 item_of_statement names {rest = rest} {s = s} r = record { kind = r.kind; behind = r.behind; begins = r.begins; reads = item_rest names s r.kind r.behind rest r.reads }
 
-statement_rest : (names after : List (List ℕ)) (s : Statement) (kind : Kind) (ts rest : List Lexeme) → (form s ≡ forms.Declaration → ⊥) → ReadsItemRest names after kind ts s rest → ReadsRest names kind ts s rest
+pub statement_rest : (names after : List (List ℕ)) (s : Statement) (kind : Kind) (ts rest : List Lexeme) → (form s ≡ forms.Declaration → ⊥) → ReadsItemRest names after kind ts s rest → ReadsRest names kind ts s rest
 statement_rest names after (Declare line k) kind ts rest other r = absurd (other refl)
 statement_rest names after (Initialise line k e) kind ts rest other r = absurd (other refl)
 statement_rest names after (Empty line) kind ts rest other r = r.1
@@ -122,6 +131,9 @@ statement_rest names after (Assign line k e) kind ts rest other r = r.1
 statement_rest names after (Put line e) kind ts rest other r = r.1
 statement_rest names after (Return line e) kind ts rest other r = r.1
 statement_rest names after (Block line all) kind ts rest other r = r.1
+statement_rest names after (If line e s) kind ts rest declared r = r.1
+statement_rest names after (IfElse line e s other) kind ts rest declared r = r.1
+statement_rest names after (While line e s) kind ts rest declared r = r.1
 
 pub statement_of_item : (names after : List (List ℕ)) {ts us rest : List Lexeme} {s : Statement} (t : Lexeme) → ts ≡ t ∷ us → (form_of (kind_at t) ≡ Some forms.Declaration → ⊥) → ReadsItem names after ts s rest → ReadsStatement names ts s rest
 statement_of_item names after {rest = rest} {s = s} t parts other r =
@@ -151,6 +163,9 @@ item_rest_no_longer names after (Assign line k e) kind ts rest r = rest_no_longe
 item_rest_no_longer names after (Put line e) kind ts rest r = rest_no_longer names (Put line e) kind ts rest r.1
 item_rest_no_longer names after (Return line e) kind ts rest r = rest_no_longer names (Return line e) kind ts rest r.1
 item_rest_no_longer names after (Block line all) kind ts rest r = rest_no_longer names (Block line all) kind ts rest r.1
+item_rest_no_longer names after (If line e s) kind ts rest r = rest_no_longer names (If line e s) kind ts rest r.1
+item_rest_no_longer names after (IfElse line e s other) kind ts rest r = rest_no_longer names (IfElse line e s other) kind ts rest r.1
+item_rest_no_longer names after (While line e s) kind ts rest r = rest_no_longer names (While line e s) kind ts rest r.1
 
 pub item_shorter : (names after : List (List ℕ)) {s : Statement} {ts rest : List Lexeme} → ReadsItem names after ts s rest → length rest < length ts
 item_shorter names after {s} {ts} {rest} r =
@@ -192,6 +207,9 @@ item_names names after (Assign line k e) kind ts rest r = let l = ap length r.0 
 item_names names after (Put line e) kind ts rest r = let l = ap length r.0 in omega arith
 item_names names after (Return line e) kind ts rest r = let l = ap length r.0 in omega arith
 item_names names after (Block line all) kind ts rest r = let l = ap length r.0 in omega arith
+item_names names after (If line e s) kind ts rest r = let l = ap length r.0 in omega arith
+item_names names after (IfElse line e s other) kind ts rest r = let l = ap length r.0 in omega arith
+item_names names after (While line e s) kind ts rest r = let l = ap length r.0 in omega arith
 
 pub items_names : (ss : Statements) (names last : List (List ℕ)) (ts rest : List Lexeme) → ReadsItems names last ts ss rest → length names ≤ length last
 items_names End names last ts rest r = let l = ap length r.0 in omega arith

@@ -3,7 +3,7 @@ use Rattle.std.proofs.Common.{◌≡◌, ℕ, ◌+◌, ◌<◌, ◌≤◌, List,
 use Rattle.std.proofs.lemmas.Option.{slice_get_within}
 use Rattle.css_base.specs.Tokens.{Kind, Lexeme}
 use Rattle.css_small.specs.Tree as tree
-use Rattle.css_small.specs.Tree.{Expression, Statement, Declare, Initialise, Empty, Assign, Put, Return, Block, Statements, End, More, Program}
+use Rattle.css_small.specs.Tree.{Expression, Statement, Declare, Initialise, Empty, Assign, Put, Return, Block, If, IfElse, While, Statements, End, More, Program}
 use Rattle.css_small.specs.Grammar.{SpellsExpression, Constant, Name, Prefix, Infix, Conjunction, Disjunction, Parentheses, SpellsStatement, SpellsStatements, SpellsItem, SpellsItems, SpellsProgram}
 use Rattle.css_small.specs.Numbers.{IsWithin, AreWithin, AllWithin}
 
@@ -26,6 +26,10 @@ module _ (names : List (List ℕ)) (count : ℕ) (few : length names ≤ count) 
     statement_within (Put line e) ts h = expression_within names count few h.spells
     statement_within (Return line e) ts h = expression_within names count few h.spells
     statement_within (Block line all) ts (opens, us, closes, parts, opens_is, closes_is, line_is, spells) = statements_within all us spells
+    statement_within (If line e s) ts (head, us, parts, header, spells) = (expression_within names count few header.spells, statement_within s us spells)
+    statement_within (IfElse line e s other) ts (head, us, word, vs, parts, header, spells, takes, is, more) =
+        (expression_within names count few header.spells, statement_within s us spells, statement_within other vs more)
+    statement_within (While line e s) ts (head, us, parts, header, spells) = (expression_within names count few header.spells, statement_within s us spells)
 
     statements_within : (ss : Statements) (ts : List Lexeme) → SpellsStatements names ts ss → AllWithin count ss
     statements_within End ts h = tt
@@ -40,6 +44,9 @@ grown names after (Assign line k e) ts h = let l = ap length h.0 in omega arith
 grown names after (Put line e) ts h = let l = ap length h.0 in omega arith
 grown names after (Return line e) ts h = let l = ap length h.0 in omega arith
 grown names after (Block line all) ts h = let l = ap length h.0 in omega arith
+grown names after (If line e s) ts h = let l = ap length h.0 in omega arith
+grown names after (IfElse line e s other) ts h = let l = ap length h.0 in omega arith
+grown names after (While line e s) ts h = let l = ap length h.0 in omega arith
 
 all_grown : (ss : Statements) (names last : List (List ℕ)) (ts : List Lexeme) → SpellsItems names last ts ss → length names ≤ length last
 all_grown End names last ts h = let l = ap length h.1 in omega arith
@@ -59,6 +66,9 @@ item_within names after count few (Assign line k e) ts h = statement_within name
 item_within names after count few (Put line e) ts h = statement_within names count (let l = ap length h.0 in omega arith) (Put line e) ts h.1
 item_within names after count few (Return line e) ts h = statement_within names count (let l = ap length h.0 in omega arith) (Return line e) ts h.1
 item_within names after count few (Block line all) ts h = statement_within names count (let l = ap length h.0 in omega arith) (Block line all) ts h.1
+item_within names after count few (If line e s) ts h = statement_within names count (let l = ap length h.0 in omega arith) (If line e s) ts h.1
+item_within names after count few (IfElse line e s other) ts h = statement_within names count (let l = ap length h.0 in omega arith) (IfElse line e s other) ts h.1
+item_within names after count few (While line e s) ts h = statement_within names count (let l = ap length h.0 in omega arith) (While line e s) ts h.1
 
 items_within : (ss : Statements) (names last : List (List ℕ)) (count : ℕ) → length last ≤ count → (ts : List Lexeme) → SpellsItems names last ts ss → AllWithin count ss
 items_within End names last count few ts h = tt

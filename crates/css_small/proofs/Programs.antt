@@ -1,19 +1,20 @@
 -- Programs are read as they are spelled.
-use Rattle.std.proofs.Common.{◌≡◌, ℕ, List, [], ◌∷◌, ◌++◌, length, map, codes, Option, Some, None, refl, sym, ap, ◌∙◌, subst, append_assoc}
+use Rattle.std.proofs.Common.{◌≡◌, ℕ, Bool, true, List, [], ◌∷◌, ◌++◌, length, map, codes, Option, Some, None, refl, sym, ap, ◌∙◌, subst, append_assoc}
 use Rattle.css_base.specs.Tokens.{Kind, Word, Punctuator, Lexeme}
 use Rattle.css_small.specs.declared.parser.statements.Form.TheVariants as forms
-use Rattle.css_small.specs.Tree.{Expression, Statement, Declare, Initialise, Empty, Assign, Put, Return, Block, Statements, End, More, Program}
+use Rattle.css_small.specs.Tree.{Expression, Statement, Declare, Initialise, Empty, Assign, Put, Return, Block, If, IfElse, While, Statements, End, More, Program, takes_else}
 use Rattle.css_small.specs.Spelling.{line_of}
 use Rattle.css_small.specs.Grammar.{kind_at, kinds, first_line, semicolon, opening, Declares, Encloses, SpellsStatement, SpellsItem, SpellsItems, SpellsProgram}
 use Rattle.css_small.specs.Fronts.{Next, Takes, marks}
 use Rattle.css_small.specs.Forms.{form, form_of, line_in}
-use Rattle.css_small.specs.Readings.{Begins, ReadsEnclosed, ReadsRest, ReadsName, ReadsItemRest, ReadsItem, ReadsItems, ReadsOpening, ReadsClosing, ReadsProgram}
+use Rattle.css_small.specs.Readings.{Begins, IsNoElse, ReadsEnclosed, ReadsRest, ReadsName, ReadsItemRest, ReadsItem, ReadsItems, ReadsOpening, ReadsClosing, ReadsProgram}
 use Rattle.css_small.proofs.Marks.{semicolon_no_operator}
 use Rattle.css_small.proofs.Numbering.{AreDeclared, none_declared, more_declared}
 use Rattle.css_small.proofs.Completeness.{Head, head_of, none_of}
 use Rattle.css_small.proofs.Enclosures.{taken, Taken, taken_front, Opened, enclosed_reads, Enclosed, enclosed_spelled}
-use Rattle.css_small.proofs.FormTokens.{form_of_int, form_token}
-use Rattle.css_small.proofs.Statements.{statement_reads, statement_spelled, begun, closed}
+use Rattle.css_small.proofs.FormTokens.{form_of_int, form_of_else, form_token}
+use Rattle.css_small.proofs.Statements.{brace_no_else, else_begins_none, token_no_else, statement_reads, statement_spelled, begun, closed}
+use Rattle.css_small.proofs.Items.{statement_rest}
 
 -- the names behind an item are declared ones too
 pub still_declared : (names after : List (List ℕ)) (s : Statement) (ts : List Lexeme) → AreDeclared names → SpellsItem names after ts s → AreDeclared after
@@ -24,6 +25,9 @@ still_declared names after (Assign line k e) ts all h = subst AreDeclared (sym h
 still_declared names after (Put line e) ts all h = subst AreDeclared (sym h.0) all
 still_declared names after (Return line e) ts all h = subst AreDeclared (sym h.0) all
 still_declared names after (Block line ss) ts all h = subst AreDeclared (sym h.0) all
+still_declared names after (If line e s) ts all h = subst AreDeclared (sym h.0) all
+still_declared names after (IfElse line e s other) ts all h = subst AreDeclared (sym h.0) all
+still_declared names after (While line e s) ts all h = subst AreDeclared (sym h.0) all
 
 -- ---- what is spelled is read
 
@@ -35,14 +39,14 @@ pub record ReadItem (names after : List (List ℕ)) (s : Statement) (ts rest : L
   pub reads : ReadsItemRest names after kind behind s rest
 
 module _ (names after : List (List ℕ)) (all : AreDeclared names) where
-  statement_is_read : (s : Statement) (ts rest : List Lexeme) → ((kind : Kind) (behind : List Lexeme) → ReadsRest names kind behind s rest → ReadsItemRest names after kind behind s rest)
+  statement_is_read : (s : Statement) (ts rest : List Lexeme) → (takes_else s ≡ true → IsNoElse rest) → ((kind : Kind) (behind : List Lexeme) → ReadsRest names kind behind s rest → ReadsItemRest names after kind behind s rest)
       → SpellsStatement names ts s → ReadsItem names after (ts ++ rest) s rest
-  statement_is_read s ts rest same spells =
-      let r = statement_reads names all s ts rest spells in
+  statement_is_read s ts rest none same spells =
+      let r = statement_reads names all s ts rest none spells in
       record { kind = r.kind; behind = r.behind; begins = r.begins; reads = same r.kind r.behind r.reads }
 
-  pub item_reads : (s : Statement) (ts rest : List Lexeme) → SpellsItem names after ts s → ReadsItem names after (ts ++ rest) s rest
-  item_reads (Declare line k) ts rest (name, declares, after_is, are, line_is) =
+  pub item_reads : (s : Statement) (ts rest : List Lexeme) → (takes_else s ≡ true → IsNoElse rest) → SpellsItem names after ts s → ReadsItem names after (ts ++ rest) s rest
+  item_reads (Declare line k) ts rest none (name, declares, after_is, are, line_is) =
       let t = head_of ts (Word (codes "int")) (Word name ∷ semicolon) are in
       let u = head_of t.behind (Word name) semicolon t.others in
       record {
@@ -55,7 +59,7 @@ module _ (names after : List (List ℕ)) (all : AreDeclared names) where
           taken semicolon u.behind rest u.others,
         );
       }
-  item_reads (Initialise line k e) ts rest (name, declares, after_is, x) =
+  item_reads (Initialise line k e) ts rest none (name, declares, after_is, x) =
       let later = subst AreDeclared (sym after_is) (more_declared names name all declares.fresh) in
       let o = enclosed_reads after later.different (Word (codes "int")) (Word name ∷ marks (codes "=")) (Punctuator (codes ";")) [] semicolon_no_operator x in
       let r = o.reads rest in
@@ -70,18 +74,31 @@ module _ (names after : List (List ℕ)) (all : AreDeclared names) where
           record { inside = r.inside; closing = r.closing; opens = r.opens.2; reads = r.reads; closes = r.closes },
         );
       }
-  item_reads (Empty line) ts rest h = statement_is_read (Empty line) ts rest (λ kind behind r. (h.0, r)) h.1
-  item_reads (Assign line k e) ts rest h = statement_is_read (Assign line k e) ts rest (λ kind behind r. (h.0, r)) h.1
-  item_reads (Put line e) ts rest h = statement_is_read (Put line e) ts rest (λ kind behind r. (h.0, r)) h.1
-  item_reads (Return line e) ts rest h = statement_is_read (Return line e) ts rest (λ kind behind r. (h.0, r)) h.1
-  item_reads (Block line ss) ts rest h = statement_is_read (Block line ss) ts rest (λ kind behind r. (h.0, r)) h.1
+  item_reads (Empty line) ts rest none h = statement_is_read (Empty line) ts rest none (λ kind behind r. (h.0, r)) h.1
+  item_reads (Assign line k e) ts rest none h = statement_is_read (Assign line k e) ts rest none (λ kind behind r. (h.0, r)) h.1
+  item_reads (Put line e) ts rest none h = statement_is_read (Put line e) ts rest none (λ kind behind r. (h.0, r)) h.1
+  item_reads (Return line e) ts rest none h = statement_is_read (Return line e) ts rest none (λ kind behind r. (h.0, r)) h.1
+  item_reads (Block line ss) ts rest none h = statement_is_read (Block line ss) ts rest none (λ kind behind r. (h.0, r)) h.1
+  item_reads (If line e s) ts rest none h = statement_is_read (If line e s) ts rest none (λ kind behind r. (h.0, r)) h.1
+  item_reads (IfElse line e s other) ts rest none h = statement_is_read (IfElse line e s other) ts rest none (λ kind behind r. (h.0, r)) h.1
+  item_reads (While line e s) ts rest none h = statement_is_read (While line e s) ts rest none (λ kind behind r. (h.0, r)) h.1
 
-pub items_read : (ss : Statements) (names last : List (List ℕ)) → AreDeclared names → (ts rest : List Lexeme) → SpellsItems names last ts ss → ReadsItems names last (ts ++ rest) ss rest
-items_read End names last all ts rest h = (h.1, ap (λ l. l ++ rest) h.0)
-items_read (More s ss) names last all ts rest (us, vs, after, parts, spells, more) =
-    let r = item_reads names after all s us (vs ++ rest) spells in
+-- no item begins with `else`
+items_no_else : (names last : List (List ℕ)) → AreDeclared names → (ss : Statements) {ts rest : List Lexeme} → ReadsItems names last ts ss rest → IsNoElse rest → IsNoElse ts
+items_no_else names last all End r none = subst IsNoElse (sym r.1) none
+items_no_else names last all (More s ss) (after, next, r, more) none =
+    token_no_else r.begins (λ e.
+    let plain : form s ≡ forms.Declaration → ⊥ = λ is. (let wrong : Some forms.Assignment ≡ Some forms.Declaration = sym form_of_else ∙ ap form_of (sym e) ∙ r.begins.form_is ∙ ap Some is in absurd cc) in
+    else_begins_none names all s r.behind next r.begins.form_is (statement_rest names after s r.kind r.behind next plain r.reads) e)
+
+pub items_read : (ss : Statements) (names last : List (List ℕ)) → AreDeclared names → (ts rest : List Lexeme) → IsNoElse rest → SpellsItems names last ts ss → ReadsItems names last (ts ++ rest) ss rest
+items_read End names last all ts rest none h = (h.1, ap (λ l. l ++ rest) h.0)
+items_read (More s ss) names last all ts rest none (us, vs, after, parts, spells, more) =
+    let declared = still_declared names after s us all spells in
+    let behind = items_read ss after last declared vs rest none more in
+    let r = item_reads names after all s us (vs ++ rest) (λ t. items_no_else after last declared ss behind none) spells in
     let at : ts ++ rest ≡ us ++ (vs ++ rest) = ap (λ l. l ++ rest) parts ∙ append_assoc us vs rest in
-    (after, vs ++ rest, subst (λ l. ReadsItem names after l s (vs ++ rest)) (sym at) r, items_read ss after last (still_declared names after s us all spells) vs rest more)
+    (after, vs ++ rest, subst (λ l. ReadsItem names after l s (vs ++ rest)) (sym at) r, behind)
 
 -- main's opening behind its first word
 abbrev behind_int : List Kind
@@ -101,7 +118,7 @@ program_reads {ts} {p} s =
         opens = subst (λ l. Takes opening l (s.items ++ s.tail)) (sym parts) (taken opening s.head (s.items ++ s.tail) s.opens.0);
         line_is = ap first_line (parts ∙ ap (λ l. l ++ (s.items ++ s.tail)) h.parts) ∙ ap first_line (sym h.parts) ∙ s.opens.1;
       };
-      reads = items_read p.body [] s.names none_declared s.items s.tail s.spells;
+      reads = items_read p.body [] s.names none_declared s.items s.tail (subst IsNoElse (sym t.parts) (brace_no_else t.token t.behind t.is)) s.spells;
       counts = s.counts;
       closes = record { closes = ([], record { token = t.token; parts = tail_is; is = t.is }, refl); line_is = s.closes.1 };
     }
@@ -154,6 +171,9 @@ module _ (names after : List (List ℕ)) where
   item_spelled (Put line e) b r = statement_is_spelled (Put line e) (λ part h. (r.0, h)) b r.1
   item_spelled (Return line e) b r = statement_is_spelled (Return line e) (λ part h. (r.0, h)) b r.1
   item_spelled (Block line ss) b r = statement_is_spelled (Block line ss) (λ part h. (r.0, h)) b r.1
+  item_spelled (If line e s) b r = statement_is_spelled (If line e s) (λ part h. (r.0, h)) b r.1
+  item_spelled (IfElse line e s other) b r = statement_is_spelled (IfElse line e s other) (λ part h. (r.0, h)) b r.1
+  item_spelled (While line e s) b r = statement_is_spelled (While line e s) (λ part h. (r.0, h)) b r.1
 
 pub items_spelled : (ss : Statements) (names last : List (List ℕ)) {ts rest : List Lexeme} → ReadsItems names last ts ss rest → SpellsFronts names last ss ts rest
 items_spelled End names last r = record { front = []; parts = r.1; spells = (refl, r.0) }

@@ -2,12 +2,13 @@
 use Rattle.std.proofs.Common.{◌≡◌, ℕ, List, [], ◌∷◌, ◌++◌, length, codes, Option, Some, None, position, bytes_eq, refl, sym, ap, ◌∙◌, subst, arith}
 use Rattle.css_base.specs.Tokens.{Kind, Word, Punctuator, Lexeme}
 use Rattle.css_small.specs.declared.parser.statements.Form.TheVariants as forms
-use Rattle.css_small.specs.Tree.{Expression, Statement, Declare, Initialise, Empty, Assign, Put, Return, Block, Statements, End, More, Program}
+use Rattle.css_small.specs.Tree.{Expression, Statement, Declare, Initialise, Empty, Assign, Put, Return, Block, If, IfElse, While, Statements, End, More, Program}
 use Rattle.css_small.specs.Spelling.{line_of}
 use Rattle.css_small.specs.Grammar.{kind_at, first_line, opening}
 use Rattle.css_small.specs.Fronts.{Next, Takes, marks}
 use Rattle.css_small.specs.Forms.{form, form_of, line_in}
-use Rattle.css_small.specs.Readings.{Begins, ReadsEnclosed, ReadsRest, ReadsStatements, ReadsName, ReadsItemRest, ReadsItem, ReadsItems, ReadsOpening, ReadsClosing, ReadsProgram}
+use Rattle.css_small.specs.Readings.{Begins, ReadsEnclosed, ReadsCondition, ReadsRest, ReadsGuarded, ReadsStatement, ReadsStatements, ReadsName, ReadsItemRest, ReadsItem, ReadsItems, ReadsOpening, ReadsClosing, ReadsProgram}
+use Rattle.css_small.proofs.Marks.{one_next}
 use Rattle.css_small.proofs.Enclosures.{one_takes, one_enclosed, not_both}
 use Rattle.css_small.proofs.FormTokens.{form_of_closing_brace}
 
@@ -38,6 +39,20 @@ no_start {s} {kind} b (us, n, last) =
     let some : None ≡ Some (form s) = sym form_of_closing_brace ∙ ap form_of (sym kind_is) ∙ b.form_is in
     absurd cc
 
+-- a condition and the first token behind it
+pub record SameGuard (e d : Expression) (s q : Statement) (kind other : Kind) (behind after : List Lexeme) : Type 0 where
+  pub values : e ≡ d
+  pub start : SameStart s q kind other behind after
+
+pub one_guard : (names : List (List ℕ)) {e d : Expression} {s q : Statement} {kind other : Kind} {ts next last behind after : List Lexeme} → ReadsCondition names ts e next → ReadsCondition names ts d last → Begins s kind next behind → Begins q other last after
+    → SameGuard e d s q kind other behind after
+one_guard names {q = q} {other = other} {after = after} c x b d =
+    let same = one_enclosed names (marks (codes "(")) (marks (codes ")")) c x in
+    record { values = same.0; start = one_start b (subst (λ z. Begins q other z after) (sym same.1) d) }
+
+moved : (names : List (List ℕ)) (q : Statement) (ys : List Lexeme) {kind other : Kind} {behind after : List Lexeme} → kind ≡ other → behind ≡ after → ReadsRest names other after q ys → ReadsRest names kind behind q ys
+moved names q ys {kind} {after = after} k l r = subst (λ z. ReadsRest names kind z q ys) (sym l) (subst (λ z. ReadsRest names z after q ys) (sym k) r)
+
 -- ---- statements
 
 module _ (names : List (List ℕ)) where
@@ -63,6 +78,29 @@ module _ (names : List (List ℕ)) where
           ap (λ n. Block n inner) l ∙ ap (λ v. Block other v) same.0,
           one_takes (marks (codes "}")) r.0 xs ys r.2 (subst (λ z. Takes (marks (codes "}")) z ys) (sym same.1) t.2),
         )
+    one_rest (If line e s) (If other d q) kind ts xs ys f l (next, first, behind, c, b, r, none) (next', first', behind', c', b', t, none') =
+        let g = one_guard names c c' b b' in
+        let same = one_rest s q first behind xs ys g.start.forms g.start.lines r (moved names q ys g.start.kinds g.start.tokens t) in
+        (ap (λ n. If n e s) l ∙ ap (λ v. If other v s) g.values ∙ ap (λ v. If other d v) same.0, same.1)
+    one_rest (If line e s) (IfElse other d q p) kind ts xs ys f l (next, first, behind, c, b, r, none) (next', first', behind', middle', after', second', last', c', b', t, word', n', t') =
+        let g = one_guard names c c' b b' in
+        let same = one_rest s q first behind xs middle' g.start.forms g.start.lines r (moved names q middle' g.start.kinds g.start.tokens t) in
+        absurd (none after' (subst (λ z. Next (Word (codes "else")) z after') (sym same.1) word'))
+    one_rest (IfElse line e s o) (If other d q) kind ts xs ys f l (next, first, behind, middle, after, second, last, c, b, r, word, n, u) (next', first', behind', c', b', t, none') =
+        let g = one_guard names c c' b b' in
+        let same = one_rest s q first behind middle ys g.start.forms g.start.lines r (moved names q ys g.start.kinds g.start.tokens t) in
+        absurd (none' after (subst (λ z. Next (Word (codes "else")) z after) same.1 word))
+    one_rest (IfElse line e s o) (IfElse other d q p) kind ts xs ys f l (next, first, behind, middle, after, second, last, c, b, r, word, n, u) (next', first', behind', middle', after', second', last', c', b', t, word', n', t') =
+        let g = one_guard names c c' b b' in
+        let same = one_rest s q first behind middle middle' g.start.forms g.start.lines r (moved names q middle' g.start.kinds g.start.tokens t) in
+        let behind_else = one_next word (subst (λ z. Next (Word (codes "else")) z after') (sym same.1) word') in
+        let start = one_start n (subst (λ z. Begins p second' z last') (sym behind_else) n') in
+        let others = one_rest o p second last xs ys start.forms start.lines u (moved names p ys start.kinds start.tokens t') in
+        (ap (λ n. IfElse n e s o) l ∙ ap (λ v. IfElse other v s o) g.values ∙ ap (λ v. IfElse other d v o) same.0 ∙ ap (λ v. IfElse other d q v) others.0, others.1)
+    one_rest (While line e s) (While other d q) kind ts xs ys f l (next, first, behind, c, b, r) (next', first', behind', c', b', t) =
+        let g = one_guard names c c' b b' in
+        let same = one_rest s q first behind xs ys g.start.forms g.start.lines r (moved names q ys g.start.kinds g.start.tokens t) in
+        (ap (λ n. While n e s) l ∙ ap (λ v. While other v s) g.values ∙ ap (λ v. While other d v) same.0, same.1)
     one_rest (Declare line k) q kind ts xs ys f l r t = absurd r
     one_rest (Initialise line k e) q kind ts xs ys f l r t = absurd r
     one_rest s (Declare line k) kind ts xs ys f l r t = absurd t
@@ -80,6 +118,17 @@ module _ (names : List (List ℕ)) where
         let same = one_rest s q kind behind next next' start.forms start.lines r moved in
         let others = one_list ss qs next more (subst (λ z. ReadsStatements names z qs ys) (sym same.1) more') c d in
         (ap (λ z. More z ss) same.0 ∙ ap (λ z. More q z) others.0, others.1)
+
+pub one_statement : (names : List (List ℕ)) {s q : Statement} {ts xs ys : List Lexeme} → ReadsStatement names ts s xs → ReadsStatement names ts q ys → (s ≡ q) × (xs ≡ ys)
+one_statement names {s} {q} {ts} {xs} {ys} r t =
+    let start = one_start r.begins t.begins in
+    one_rest names s q r.kind r.behind xs ys start.forms start.lines r.reads (moved names q ys start.kinds start.tokens t.reads)
+
+pub one_guarded : (names : List (List ℕ)) {e d : Expression} {s q : Statement} {ts xs ys : List Lexeme} → ReadsGuarded names ts e s xs → ReadsGuarded names ts d q ys → xs ≡ ys
+one_guarded names {q = q} {ys = ys} r t =
+    let same = one_enclosed names (marks (codes "(")) (marks (codes ")")) r.condition t.condition in
+    let both = one_statement names r.guards (subst (λ l. ReadsStatement names l q ys) (sym same.1) t.guards) in
+    both.1
 
 -- ---- items
 
@@ -140,6 +189,11 @@ one_item_rest names (Assign line k e) (Assign m j d) kind after other ts xs ys f
 one_item_rest names (Put line e) (Put m d) kind after other ts xs ys f l r t = plain names (Put line e) (Put m d) kind ts xs ys f l r t
 one_item_rest names (Return line e) (Return m d) kind after other ts xs ys f l r t = plain names (Return line e) (Return m d) kind ts xs ys f l r t
 one_item_rest names (Block line ss) (Block m qs) kind after other ts xs ys f l r t = plain names (Block line ss) (Block m qs) kind ts xs ys f l r t
+one_item_rest names (If line e s) (If m d q) kind after other ts xs ys f l r t = plain names (If line e s) (If m d q) kind ts xs ys f l r t
+one_item_rest names (If line e s) (IfElse m d q p) kind after other ts xs ys f l r t = plain names (If line e s) (IfElse m d q p) kind ts xs ys f l r t
+one_item_rest names (IfElse line e s o) (If m d q) kind after other ts xs ys f l r t = plain names (IfElse line e s o) (If m d q) kind ts xs ys f l r t
+one_item_rest names (IfElse line e s o) (IfElse m d q p) kind after other ts xs ys f l r t = plain names (IfElse line e s o) (IfElse m d q p) kind ts xs ys f l r t
+one_item_rest names (While line e s) (While m d q) kind after other ts xs ys f l r t = plain names (While line e s) (While m d q) kind ts xs ys f l r t
 one_item_rest names s q kind after other ts xs ys f l r t = absurd cc
 
 pub one_item : (names : List (List ℕ)) {s q : Statement} {after other : List (List ℕ)} {ts xs ys : List Lexeme} → ReadsItem names after ts s xs → ReadsItem names other ts q ys → SameItem s q after other xs ys

@@ -144,7 +144,6 @@ abbrev mutual
   SpellsStatement names ts (Block line all) =
       (opens : Lexeme) × (us : List Lexeme) × (closes : Lexeme) × (ts ≡ opens ∷ us ++ closes ∷ [])
       × (kind_at opens ≡ Punctuator (codes "{")) × (kind_at closes ≡ Punctuator (codes "}")) × (line_of opens ≡ line) × SpellsStatements names us all
-
   SpellsStatement names ts (If line e s) =
       (head : List Lexeme) × (us : List Lexeme) × (ts ≡ head ++ us) × SpellsHeader names head (codes "if") e line × SpellsStatement names us s
   SpellsStatement names ts (IfElse line e s other) =

@@ -20,7 +20,6 @@ abbrev mutual
   AreWithin variables (Put line e) = IsWithin variables e
   AreWithin variables (Return line e) = IsWithin variables e
   AreWithin variables (Block line all) = AllWithin variables all
-
   AreWithin variables (If line e s) = IsWithin variables e × AreWithin variables s
   AreWithin variables (IfElse line e s other) = IsWithin variables e × AreWithin variables s × AreWithin variables other
   AreWithin variables (While line e s) = IsWithin variables e × AreWithin variables s

@@ -1,4 +1,5 @@
--- What the parser reads from the front of some tokens. An expression goes on as long as it can; statements end by themselves.
+-- What the parser reads from the front of some tokens. An expression goes on as long as it can, and so does an `if`, to which an
+-- `else` behind it belongs; the other statements end by themselves.
 use Rattle.std.specs.Prelude.{◌≡◌, ℕ, ◌+◌, ◌<◌, ◌≤◌, nat_le, if◌then◌else◌, List, [], ◌∷◌, ◌++◌, length, codes, Option, Some, None, position, bytes_eq}
 use Rattle.std.specs.Option.{option_map}
 use Rattle.css_base.specs.declared.int_type.IntType.TheVariants as types
@@ -8,7 +9,7 @@ use Rattle.css_num.specs.declared.operators.UnOp.{UnOp}
 use Rattle.css_small.specs.declared.parser.operators.Operator.{Operator}
 use Rattle.css_small.specs.declared.parser.statements.Form.{Form}
 use Rattle.css_small.specs.declared.parser.statements.Form.TheVariants as forms
-use Rattle.css_small.specs.Tree.{Expression, Number, Variable, Unary, Statement, Declare, Initialise, Empty, Assign, Put, Return, Block, Statements, End, More, Program}
+use Rattle.css_small.specs.Tree.{Expression, Number, Variable, Unary, Statement, Declare, Initialise, Empty, Assign, Put, Return, Block, If, IfElse, While, Statements, End, More, Program}
 use Rattle.css_small.specs.Spelling.{line_of}
 use Rattle.css_small.specs.Grammar.{kind_at, first_line, Declares, opening}
 use Rattle.css_small.specs.Operators.{joined, operator_level, operator_of, unary_of}
@@ -97,6 +98,14 @@ pub record Begins (s : Statement) (kind : Kind) (ts behind : List Lexeme) : Type
   pub line_is : line_of token ≡ line_in s
   pub form_is : form_of kind ≡ Some (form s)
 
+-- no `else` is next
+abbrev pub IsNoElse : List Lexeme → Type 0
+IsNoElse ts = (rest : List Lexeme) → Next (Word (codes "else")) ts rest → ⊥
+
+-- a condition in parentheses
+abbrev pub ReadsCondition : List (List ℕ) → List Lexeme → Expression → List Lexeme → Type 0
+ReadsCondition names ts e rest = ReadsEnclosed names (marks (codes "(")) (marks (codes ")")) ts e rest
+
 abbrev mutual
   -- a statement behind its first token, which has this kind
   pub ReadsRest : List (List ℕ) → Kind → List Lexeme → Statement → List Lexeme → Type 0
@@ -108,6 +117,17 @@ abbrev mutual
   ReadsRest names kind ts (Put line e) rest = ReadsEnclosed names (marks (codes "(")) (marks (codes ");")) ts e rest
   ReadsRest names kind ts (Return line e) rest = ReadsEnclosed names [] (marks (codes ";")) ts e rest
   ReadsRest names kind ts (Block line all) rest = (closing : List Lexeme) × ReadsStatements names ts all closing × Takes (marks (codes "}")) closing rest
+  ReadsRest names kind ts (If line e s) rest =
+      (next : List Lexeme) × (first : Kind) × (behind : List Lexeme) × ReadsCondition names ts e next
+      × Begins s first next behind × ReadsRest names first behind s rest × IsNoElse rest
+  ReadsRest names kind ts (IfElse line e s other) rest =
+      (next : List Lexeme) × (first : Kind) × (behind : List Lexeme) × (middle : List Lexeme) × (after : List Lexeme)
+      × (second : Kind) × (last : List Lexeme) × ReadsCondition names ts e next
+      × Begins s first next behind × ReadsRest names first behind s middle × Next (Word (codes "else")) middle after
+      × Begins other second after last × ReadsRest names second last other rest
+  ReadsRest names kind ts (While line e s) rest =
+      (next : List Lexeme) × (first : Kind) × (behind : List Lexeme) × ReadsCondition names ts e next
+      × Begins s first next behind × ReadsRest names first behind s rest
 
   -- statements one behind another
   pub ReadsStatements : List (List ℕ) → List Lexeme → Statements → List Lexeme → Type 0
@@ -128,6 +148,12 @@ pub record ReadsStatement (names : List (List ℕ)) (ts : List Lexeme) (s : Stat
   pub behind : List Lexeme
   pub begins : Begins s kind ts behind
   pub reads : ReadsRest names kind behind s rest
+
+-- a condition in parentheses and a statement behind it
+pub record ReadsGuarded (names : List (List ℕ)) (ts : List Lexeme) (e : Expression) (s : Statement) (rest : List Lexeme) : Type 0 where
+  pub behind : List Lexeme
+  pub condition : ReadsCondition names ts e behind
+  pub guards : ReadsStatement names behind s rest
 
 -- ---- main's body
 

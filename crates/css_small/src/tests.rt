@@ -35,7 +35,7 @@ fn write_operator(out: &mut String, e: &Expression) -> Result<(), AllocError> {
     }
 }
 
-/// Writes a statement with its line.
+/// Writes a statement with its line, and what stands in it in brackets.
 fn write_statement(out: &mut String, statement: &Statement) -> Result<(), AllocError> {
     match statement {
         Statement::Block { line, statements } => {
@@ -46,8 +46,50 @@ fn write_statement(out: &mut String, statement: &Statement) -> Result<(), AllocE
             }
             out.push_str("}")
         }
+        Statement::If {
+            line,
+            condition,
+            body,
+        } => {
+            write_guard(out, "if", line.number(), condition)?;
+            write_statement(out, body)?;
+            out.push_str("]")
+        }
+        Statement::IfElse {
+            line,
+            condition,
+            body,
+            other,
+        } => {
+            write_guard(out, "if", line.number(), condition)?;
+            write_statement(out, body)?;
+            out.push_str("] else [")?;
+            write_statement(out, other)?;
+            out.push_str("]")
+        }
+        Statement::While {
+            line,
+            condition,
+            body,
+        } => {
+            write_guard(out, "while", line.number(), condition)?;
+            write_statement(out, body)?;
+            out.push_str("]")
+        }
         _ => write_simple(out, statement),
     }
+}
+
+/// Writes what stands before the statement that a condition guards.
+fn write_guard(
+    out: &mut String,
+    keyword: &str,
+    line: u32,
+    condition: &Expression,
+) -> Result<(), AllocError> {
+    write!(out, "{line}:{keyword} ")?;
+    write_expression(out, condition)?;
+    out.push_str(" [")
 }
 
 /// Writes a statement in which no other stands, with its line.
@@ -79,7 +121,7 @@ fn write_simple(out: &mut String, statement: &Statement) -> Result<(), AllocErro
             write!(out, "{}:return ", line.number())?;
             write_expression(out, value)
         }
-        Statement::Block { line, .. } => write!(out, "{}:block", line.number()),
+        _ => out.push_str("other"),
     }
 }
 
@@ -177,11 +219,63 @@ fn bodies(rt: HostRuntime) -> Result<(), Fail> {
             "1:int v0 1:int v1=v1 1:int v2 1:v0=v2 1-1 3",
         ),
         (
+            "int main(void){int a;\nif\n(a)\n;\nelse\nwhile(a)\nputchar(a);}",
+            "1:int v0 2:if v0 [4:;] else [6:while v0 [7:put v0]] 1-7 1",
+        ),
+        (
             "int main(void){return 1;;int x;}",
             "1:return 1 1:; 1:int v0 1-1 1",
         ),
     ] {
         check(&rt, alloc, text, want)?;
+    }
+    Ok(())
+}
+
+/// An `else` belongs to the nearest `if` that can take it (C99 6.8.4.1).
+#[test]
+fn branches(rt: HostRuntime) -> Result<(), Fail> {
+    let alloc = rt.alloc();
+    for (statements, want) in [
+        ("if(a);", "1:if v0 [1:;]"),
+        ("while(a);", "1:while v0 [1:;]"),
+        ("if(a);else a=1;", "1:if v0 [1:;] else [1:v0=1]"),
+        (
+            "if (a) if (b) ; else ;",
+            "1:if v0 [1:if v1 [1:;] else [1:;]]",
+        ),
+        (
+            "if(a){if(b);}else;",
+            "1:if v0 [1:{ 1:if v1 [1:;] }] else [1:;]",
+        ),
+        (
+            "if(a)if(b);else;else return a;",
+            "1:if v0 [1:if v1 [1:;] else [1:;]] else [1:return v0]",
+        ),
+        (
+            "if(a)a=1;else if(b)a=2;else a=3;",
+            "1:if v0 [1:v0=1] else [1:if v1 [1:v0=2] else [1:v0=3]]",
+        ),
+        (
+            "if(a)while(b)if(1);else;else;",
+            "1:if v0 [1:while v1 [1:if 1 [1:;] else [1:;]]] else [1:;]",
+        ),
+        (
+            "if(a);else while(b)if(a);",
+            "1:if v0 [1:;] else [1:while v1 [1:if v0 [1:;]]]",
+        ),
+        (
+            "if(a);if(b);else;",
+            "1:if v0 [1:;] 1:if v1 [1:;] else [1:;]",
+        ),
+        (
+            "while(a&&b||1){a=b;}",
+            "1:while (|| (&& v0 v1) 1) [1:{ 1:v0=v1 }]",
+        ),
+    ] {
+        let text = format!(in alloc; "int main(void){{int a;int b;{statements}}}")?;
+        let read = format!(in alloc; "1:int v0 1:int v1 {want} 1-1 2")?;
+        check(&rt, alloc, text.as_str(), read.as_str())?;
     }
     Ok(())
 }
@@ -209,6 +303,25 @@ fn near_misses(rt: HostRuntime) -> Result<(), Fail> {
         "x = 1; int x;",
         "int int;",
         "int if;",
+        "int else;",
+        "int while;",
+        "if = 1;",
+        "else;",
+        "if (1); else; else;",
+        "{ if (1); } else;",
+        "while (1); else;",
+        "if (1);; else;",
+        "if (1) int x;",
+        "if (1); else int x;",
+        "while (1) int x;",
+        "if 1;",
+        "if ();",
+        "if (1 ;",
+        "if (1)",
+        "if (1); else",
+        "if (1) else;",
+        "while (1)",
+        "while ();",
         "int putchar;",
         "int _Bool;",
         "int 1;",
@@ -283,6 +396,12 @@ fn limits(rt: HostRuntime) -> Result<(), Fail> {
         (["return ", "!", "1", "", ";"], 496),
         // Main, its block, ten more, a call as a statement and as an expression, 485 operators and the constant.
         (["{{{{{{{{{{putchar(1", "-1", "", "", ");}}}}}}}}}}"], 485),
+        // Main, its block, 497 headers and the empty statement.
+        (["", "if(1)", ";", "", ""], 497),
+        (["", "while(1)", ";", "", ""], 497),
+        (["", "if(1);else ", ";", "", ""], 497),
+        // Main, its block, the loop, 496 operators and the constant.
+        (["while(", "~", "1", "", ");"], 496),
         // Main has seven tokens of its own.
         (["", ";", "", "", ""], 999_993),
         // Main has sixteen bytes of its own.

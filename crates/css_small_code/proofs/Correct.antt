@@ -1,7 +1,7 @@
 -- A program's code has the program's dialogue.
 use Rattle.std.proofs.Common.{◌≡◌, ◌≢◌, ℕ, ℤ, pos, ◌+◌, Bool, true, false, nat_eq, List, [], ◌∷◌, ◌++◌, length, refl, ap, ◌∙◌, subst, arith, length-append}
 use Rattle.std.proofs.lemmas.Bool.{eqb-true}
-use Rattle.css_semantics.specs.Dialogue.{Enter, Tape, World, Outcome, Goes, Stops, Reason, Over, Faulted, then_do, ask}
+use Rattle.css_semantics.specs.Dialogue.{Enter, Tape, World, Outcome, Goes, Stops, Reason, Stopped, then_do, ask}
 use Rattle.css_vm.specs.declared.code.Instr.{Instr}
 use Rattle.css_vm.specs.declared.code.Op.TheVariants as ops
 use Rattle.css_vm.specs.Code.{Routine, first_line}
@@ -9,16 +9,15 @@ use Rattle.css_vm.specs.Machine.{Halt, Finished, Stuck, At, On, go_on, exec, tar
 use Rattle.css_small.specs.Tree.{Program}
 use Rattle.css_small_code.specs.Code.{statements_code, end_code, program_code}
 use Rattle.css_small_code.specs.Meaning.{frame_of, meanings, left, source}
-use Rattle.css_small_code.specs.Numbers.{HasNumbers}
+use Rattle.css_small.specs.Numbers.{HasNumbers}
 use Rattle.css_small_code.specs.Correct.{Codes}
 use Rattle.css_small_code.proofs.Runs.{Landing, Runs, runs_step, runs_asks, runs_then, then_assoc}
-use Rattle.css_small_code.proofs.Ends.{IsOver, Finishes, same, reached, only}
+use Rattle.css_small_code.proofs.Ends.{IsOver, Finishes, same, reached, tires, only}
 use Rattle.css_small_code.proofs.Stands.{Stands, stands_front, stands_back, stands_whole}
 use Rattle.css_small_code.proofs.Steps.{From, runs_quiet}
 use Rattle.css_small_code.proofs.FirstLines.{entry_if}
 use Rattle.css_small_code.proofs.StatementRuns.{statements_run, leaves}
-use Rattle.css_small_code.proofs.Heights.{ranked, heights_of}
-use Rattle.css_small_code.proofs.Sound.{is_sound}
+use Rattle.css_small_code.proofs.Sound.{plan_of, is_sound}
 
 -- ---- the entry
 
@@ -41,7 +40,7 @@ module _ (w : World) (f : Routine) (base : ℕ) where
 -- ---- the program
 
 -- the machine follows main behind its entry
-body_runs : (w : World) (p : Program) (n base : ℕ) (t : Tape) → HasNumbers p → Runs n (From w (program_code p) base 0 [] t) Finishes (then_do (meanings w base p.body t) (left w base (frame_of p) p.end))
+body_runs : (w : World) (p : Program) (n base : ℕ) (t : Tape) → HasNumbers p → Runs n (From w (program_code p) base 0 [] t) Finishes (then_do (meanings w base n p.body t) (left w base (frame_of p) p.end))
 body_runs w p n base t numbers =
     let f = program_code p in
     let within = nat_eq (first_line (statements_code p.body 0 ++ end_code p.end)) p.line in
@@ -58,8 +57,8 @@ body_runs w p n base t numbers =
     entry_runs w f base within p.line t (stands_front f.body 0 entry body front)
     (runs_then (statements_run w f base p.variables n p.body at [] t numbers.within stands) (λ flow t'. leaves w f base p.variables n flow p.end (at + length body) [] t' end))
 
--- the machine follows a program
-program_runs : (w : World) (p : Program) (n : ℕ) → HasNumbers p → Runs n (target w (program_code p)) Finishes (source w p)
+-- the machine follows a program with fuel, and goes on for as many steps at least where the fuel ends it
+program_runs : (w : World) (p : Program) (n : ℕ) → HasNumbers p → Runs n (target w (program_code p)) Finishes (source w n p)
 program_runs w p n numbers =
     let f = program_code p in
     let entered = λ (k base : ℕ) (t : Tape). From w f base 0 [] t k in
@@ -80,23 +79,22 @@ not_stuck (Stops how s) t e = cc
 
 module _ (p : Program) (numbers : HasNumbers p) where
   -- the machine comes to the program's end
-  comes_to : (w : World) (o : Outcome ℤ) → source w p ≡ o → (n : ℕ) × (target w (program_code p) n ≡ same o)
-  comes_to w o e =
-      subst (λ o. (n : ℕ) × (target w (program_code p) n ≡ same o)) e (reached w (program_code p) (source w p) (program_runs w p 0 numbers))
+  comes_to : (w : World) (fuel : ℕ) (o : Outcome ℤ) → source w fuel p ≡ o → (n : ℕ) × (target w (program_code p) n ≡ same o)
+  comes_to w fuel o e =
+      subst (λ o. (n : ℕ) × (target w (program_code p) n ≡ same o)) e (reached w (program_code p) fuel (source w fuel p) (program_runs w p fuel numbers))
 
-  -- an end of the machine is the program's
-  comes_from : (w : World) (n : ℕ) (o : Outcome Halt) → IsOver o → target w (program_code p) n ≡ o → same (source w p) ≡ o
-  comes_from w n o over e = only w (program_code p) n o (source w p) over e (program_runs w p n numbers)
+  -- an end of the machine is that of the program with as much fuel as steps
+  comes_from : (w : World) (n : ℕ) (o : Outcome Halt) → IsOver o → target w (program_code p) n ≡ o → same (source w n p) ≡ o
+  comes_from w n o over e = only w (program_code p) n o (source w n p) over e (program_runs w p n numbers)
 
   pub codes : Codes (program_code p) p
   codes = record {
-    sound = (ranked (heights_of (program_code p)), is_sound p);
+    sound = (plan_of p, is_sound p);
     frame = refl;
-    finishes = λ w v t e. comes_to w (Goes v t) e;
-    is_over = λ w t e. comes_to w (Stops Over t) e;
-    faults = λ w kind line t e. comes_to w (Stops (Faulted kind line) t) e;
-    finishes_only = λ w n v t e. finished_same (source w p) v t (comes_from w n (Goes (Finished v) t) tt e);
-    is_over_only = λ w n t e. stops_same (source w p) Over t (comes_from w n (Stops Over t) tt e);
-    faults_only = λ w n kind line t e. stops_same (source w p) (Faulted kind line) t (comes_from w n (Stops (Faulted kind line) t) tt e);
-    never_stuck = λ w n t e. not_stuck (source w p) t (comes_from w n (Goes Stuck t) tt e);
+    finishes = λ w fuel v t e. comes_to w fuel (Goes v t) e;
+    stops = λ w fuel stop line t e. comes_to w fuel (Stops (Stopped stop line) t) e;
+    goes_on = λ w fuel t e. tires w (program_code p) fuel (source w fuel p) t e (program_runs w p fuel numbers);
+    finishes_only = λ w n v t e. (n, finished_same (source w n p) v t (comes_from w n (Goes (Finished v) t) tt e));
+    stops_only = λ w n stop line t e. (n, stops_same (source w n p) (Stopped stop line) t (comes_from w n (Stops (Stopped stop line) t) tt e));
+    never_stuck = λ w n t e. not_stuck (source w n p) t (comes_from w n (Goes Stuck t) tt e);
   }

@@ -12,8 +12,14 @@ use Rattle.css_small_code.specs.Code.{in_line, truth_code, unary_code, binary_co
 use Rattle.css_small_code.specs.Meaning.{place_of}
 use Rattle.css_small_code.proofs.Lines.{Emits, emits-length, emits_both}
 
--- another instruction in place of the one at a seam
-abbrev patched : ℕ → List Instr → ℕ → Op → List Instr
+-- Behind a list an instruction and more: another instruction is written in its place.
+pub written_back : (old mid new more : List Instr) (i j : Instr) → mid ≡ old ++ i ∷ [] → new ≡ mid ++ more → slice_set new (length old) j ≡ old ++ j ∷ more
+written_back old mid new more i j one two =
+    let whole : new ≡ old ++ i ∷ more = two ∙ ap (λ is. is ++ more) one ∙ append_assoc old (i ∷ []) more in
+    ap (λ is. slice_set is (length old) j) whole ∙ set-append_seam old i more j
+
+-- another operator at a place
+abbrev pub patched : ℕ → List Instr → ℕ → Op → List Instr
 patched line code place op = slice_set code place (record { op = op; line = line })
 
 module _ (line : ℕ) where
@@ -45,8 +51,7 @@ module _ (line : ℕ) where
   patch old mid new first op more one two =
       let i : Instr = record { op = first; line = line } in
       let j : Instr = record { op = op; line = line } in
-      let whole : new ≡ old ++ i ∷ in_line line more = two ∙ ap (λ is. is ++ in_line line more) one ∙ append_assoc old (i ∷ []) (in_line line more) in
-      record { items = ap (λ is. slice_set is (length old) j) whole ∙ set-append_seam old i (in_line line more) j }
+      record { items = written_back old mid new (in_line line more) i j one two }
 
   pub and_emitted : (old left test right new : List Instr) (whole a b : Expression) (at : ℕ) → whole ≡ And a b → Follows old left a → at ≡ length left → test ≡ left ++ in_line line (ops.Jumpz 0 ∷ []) → Follows test right b →
       (let no = length right + 3 in new ≡ patched line right at (ops.Jumpz no) ++ in_line line (truth_code ++ ops.Jump (no + 1) ∷ ops.Push (pos 0) ∷ [])) → Follows old new whole

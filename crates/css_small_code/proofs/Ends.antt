@@ -1,7 +1,7 @@
 -- A run that is over stays over with more steps, so it has one end: that of the program which it follows.
 use Rattle.std.proofs.Common.{◌≡◌, ℕ, ℤ, zero, suc, ◌≤◌, [], sym, ◌∙◌, subst, ⊎_elim, arith}
 use Rattle.std.proofs.lemmas.Bool.{cases_lt}
-use Rattle.css_semantics.specs.Dialogue.{Tape, World, Outcome, Goes, Stops, Over, Faulted, Tired, then_do}
+use Rattle.css_semantics.specs.Dialogue.{Tape, World, Outcome, Goes, Stops, Stopped, Tired, then_do}
 use Rattle.css_vm.specs.Code.{Routine}
 use Rattle.css_vm.specs.Machine.{Halt, Finished, State, Begin, After, Ended, On, step, go_on, exec, target}
 use Rattle.css_small_code.proofs.Runs.{Landing, Runs, RunsTo}
@@ -9,8 +9,7 @@ use Rattle.css_small_code.proofs.Runs.{Landing, Runs, RunsTo}
 -- the run is over: no step is left to take
 abbrev pub IsOver : Outcome Halt → Type 0
 IsOver (Goes halt t) = Unit {0}
-IsOver (Stops Over t) = Unit {0}
-IsOver (Stops (Faulted kind line) t) = Unit {0}
+IsOver (Stops (Stopped stop line) t) = Unit {0}
 IsOver (Stops Tired t) = ⊥
 
 -- where the first is over, the second is over with the same outcome
@@ -50,18 +49,21 @@ same (Goes v t) = Goes (Finished v) t
 same (Stops why t) = Stops why t
 
 module _ (w : World) (f : Routine) where
-  reached_to : (o : Outcome ℤ) → RunsTo 0 (target w f) Finishes o → (n : ℕ) × (target w f n ≡ same o)
-  reached_to (Goes v t) r = let b = r 0 in (b.0, b.2)
-  reached_to (Stops why t) r = (r.0, r.2)
+  reached_to : (n : ℕ) (o : Outcome ℤ) → RunsTo n (target w f) Finishes o → (m : ℕ) × (target w f m ≡ same o)
+  reached_to n (Goes v t) r = let b = r 0 in (b.0, b.2)
+  reached_to n (Stops why t) r = (r.0, r.2)
 
   -- the machine comes to the program's end
-  pub reached : (o : Outcome ℤ) → Runs 0 (target w f) Finishes o → (n : ℕ) × (target w f n ≡ same o)
-  reached o r = reached_to o r.by
+  pub reached : (n : ℕ) (o : Outcome ℤ) → Runs n (target w f) Finishes o → (m : ℕ) × (target w f m ≡ same o)
+  reached n o r = reached_to n o r.by
+
+  -- the machine goes on for as many steps as the program has fuel
+  pub tires : (n : ℕ) (o : Outcome ℤ) (t : Tape) → o ≡ Stops Tired t → Runs n (target w f) Finishes o → (m : ℕ) × (n ≤ m) × (target w f m ≡ Stops Tired t)
+  tires n o t e r = subst (RunsTo n (target w f) Finishes) e r.by
 
   only_to : (n : ℕ) (p : Outcome Halt) (o : Outcome ℤ) → IsOver p → target w f n ≡ p → RunsTo n (target w f) Finishes o → same o ≡ p
   only_to n p (Goes v t) over e r = let b = r 0 in one_end w f b.0 n (Goes (Finished v) t) p tt over b.2 e
-  only_to n p (Stops Over t) over e r = one_end w f r.0 n (Stops Over t) p tt over r.2 e
-  only_to n p (Stops (Faulted kind line) t) over e r = one_end w f r.0 n (Stops (Faulted kind line) t) p tt over r.2 e
+  only_to n p (Stops (Stopped stop line) t) over e r = one_end w f r.0 n (Stops (Stopped stop line) t) p tt over r.2 e
   only_to n p (Stops Tired t) over e r = absurd (subst IsOver (sym (longer_target w f n r.0 p r.1 over e) ∙ r.2) over)
 
   -- and to no other

@@ -20,24 +20,24 @@ leaves_straight : (op : Op) (height : ℕ) → IsTrue (is_straight op) → leave
 leaves_straight (ops.Jump to) height straight = cc
 leaves_straight _ height straight = refl
 
-lands_straight : (heights : List ℕ) (place height : ℕ) (op : Op) → IsTrue (is_straight op) → Lands heights place height op
-lands_straight heights place height (ops.Jump to) straight = cc
-lands_straight heights place height (ops.Jumpz to) straight = cc
-lands_straight heights place height _ straight = tt
+lands_straight : (heights : List ℕ) (height : ℕ) (op : Op) → IsTrue (is_straight op) → Lands heights height op
+lands_straight heights height (ops.Jump to) straight = cc
+lands_straight heights height (ops.Jumpz to) straight = cc
+lands_straight heights height _ straight = tt
 
-straight_fit : (heights : List ℕ) (place height : ℕ) (all : List Op) → FindCells height all → AllFit heights place height all
-straight_fit heights place height [] finds = tt
-straight_fit heights place height (op ∷ all) finds =
+straight_fit : (heights : List ℕ) (height : ℕ) (all : List Op) → FindCells height all → AllFit heights height all
+straight_fit heights height [] finds = tt
+straight_fit heights height (op ∷ all) finds =
     let same = leaves_straight op height finds.0 in
-    (finds.1, lands_straight heights place height op finds.0, straight_fit heights (place + 1) (leaves op height) all (subst (λ h. FindCells h all) (sym same) finds.2))
+    (finds.1, lands_straight heights height op finds.0, straight_fit heights (leaves op height) all (subst (λ h. FindCells h all) (sym same) finds.2))
 
-unary_finds : (op : UnOp) (height : ℕ) → FindCells (height + 1) (unary_code op)
+pub unary_finds : (op : UnOp) (height : ℕ) → FindCells (height + 1) (unary_code op)
 unary_finds unary.Plus height = tt
 unary_finds unary.Minus height = (refl, omega arith, (refl, omega arith, tt))
 unary_finds unary.Complement height = (refl, omega arith, tt)
 unary_finds unary.Not height = (refl, omega arith, (refl, omega arith, tt))
 
-truth_finds : (height : ℕ) → FindCells (height + 1) truth_code
+pub truth_finds : (height : ℕ) → FindCells (height + 1) truth_code
 truth_finds height = (refl, omega arith, (refl, omega arith, tt))
 
 behind_unary : (op : UnOp) (height : ℕ) → behind (height + 1) (unary_code op) ≡ height + 1
@@ -116,15 +116,15 @@ module _ (heights : List ℕ) where
 
   -- this expression's code fits its heights wherever they stand with one cell more behind it
   abbrev FitsAt : Expression → Type 0
-  FitsAt e = (place height : ℕ) → HeightsStand heights place height (expression_code e place) → HeightIs (place + length (expression_code e place)) (height + 1) → AllFit heights place height (expression_code e place)
+  FitsAt e = (place height : ℕ) → HeightsStand heights place height (expression_code e place) → HeightIs (place + length (expression_code e place)) (height + 1) → AllFit heights height (expression_code e place)
 
   unary_fits : (op : UnOp) (e : Expression) → FitsAt e → FitsAt (Unary op e)
   unary_fits op e operand place height h end =
       let code = expression_code e place in
       let leaves_one = behind_expression e place height in
       let seam = seam_height place height (height + 1) code (unary_code op) leaves_one h (same_height refl (sym (behind_unary op height)) end) in
-      both_fit heights place height (height + 1) code (unary_code op) leaves_one (operand place height (heights_front heights place height code (unary_code op) h) seam)
-      (straight_fit heights (place + length code) (height + 1) (unary_code op) (unary_finds op height))
+      both_fit heights height (height + 1) code (unary_code op) leaves_one (operand place height (heights_front heights place height code (unary_code op) h) seam)
+      (straight_fit heights (height + 1) (unary_code op) (unary_finds op height))
 
   binary_fits : (op : BinOp) (a b : Expression) → FitsAt a → FitsAt b → FitsAt (Binary op a b)
   binary_fits op a b first second place height h end =
@@ -139,11 +139,11 @@ module _ (heights : List ℕ) where
       let seam_a = seam_height place height (height + 1) ca cb one operands (same_height refl (sym two) seam) in
       let there : place + length (ca ++ cb) ≡ mid + length cb = omega (arith, length-append ca cb) in
       let end_b : HeightIs (mid + length cb) (height + 1 + 1) = same_height there (omega arith) seam in
-      both_fit heights place height (height + 2) (ca ++ cb) (binary_code op) both
-      (both_fit heights place height (height + 1) ca cb one
+      both_fit heights height (height + 2) (ca ++ cb) (binary_code op) both
+      (both_fit heights height (height + 1) ca cb one
       (first place height (heights_front heights place height ca cb operands) seam_a)
       (second mid (height + 1) (heights_back heights place height (height + 1) ca cb one operands) end_b))
-      (straight_fit heights (place + length (ca ++ cb)) (height + 2) (binary_code op) (binary_finds op height))
+      (straight_fit heights (height + 2) (binary_code op) (binary_finds op height))
 
   and_fits : (a b : Expression) → FitsAt a → FitsAt b → FitsAt (And a b)
   and_fits a b first second place height h end =
@@ -170,14 +170,12 @@ module _ (heights : List ℕ) where
       let place_end : place + length (tested ++ truth_code ++ last) ≡ no + 1 = omega (arith, place_jump, length-append (tested ++ truth_code) last) in
       let fit_a = first place height (heights_front heights place height ca jumped operands) jump.0 in
       let fit_b = second (mid + 1) height (subst (λ k. HeightsStand heights (mid + 1) k cb) low jump.1) (same_height place_truth refl truth.0) in
-      let fit_jumped : AllFit heights mid (height + 1) jumped =
-      (omega arith, (omega arith, same_height place_no refl back.1.0), subst (λ k. AllFit heights (mid + 1) k cb) (sym low) fit_b) in
-      let fit_last : AllFit heights (place + length (tested ++ truth_code)) (height + 1) last =
-      (omega arith, (omega (arith, place_jump), same_height place_end refl end), (omega arith, tt, tt)) in
-      both_fit heights place height (height + 1) (tested ++ truth_code) last all
-      (both_fit heights place height (height + 1) tested truth_code both
-      (both_fit heights place height (height + 1) ca jumped one fit_a fit_jumped)
-      (straight_fit heights (place + length tested) (height + 1) truth_code (truth_finds height)))
+      let fit_jumped : AllFit heights (height + 1) jumped = (omega arith, same_height place_no refl back.1.0, subst (λ k. AllFit heights k cb) (sym low) fit_b) in
+      let fit_last : AllFit heights (height + 1) last = (omega arith, same_height place_end refl end, (omega arith, tt, tt)) in
+      both_fit heights height (height + 1) (tested ++ truth_code) last all
+      (both_fit heights height (height + 1) tested truth_code both
+      (both_fit heights height (height + 1) ca jumped one fit_a fit_jumped)
+      (straight_fit heights (height + 1) truth_code (truth_finds height)))
       fit_last
 
   or_fits : (a b : Expression) → FitsAt a → FitsAt b → FitsAt (Or a b)
@@ -203,13 +201,13 @@ module _ (heights : List ℕ) where
       let start_b = first_height heights other height cb stand_b (same_height refl (sym (behind_expression b other height)) end_b) in
       let fit_a = first place height (heights_front heights place height ca jumps operands) jump.0 in
       let fit_b = second other height stand_b end_b in
-      let fit_b' = subst (λ k. AllFit heights (mid + 1 + 1 + 1) k cb) (sym low) (subst (λ p. AllFit heights p height cb) (sym place_second) fit_b) in
+      let fit_b' = subst (λ k. AllFit heights k cb) (sym low) fit_b in
       let ahead : HeightIs other (height + 1 - 1) = same_height refl (omega arith) start_b in
       let over : HeightIs out (height + 1 - 1 + 0 - 0 + 1) = same_height place_end (omega arith) end in
-      let fit_jumps : AllFit heights mid (height + 1) jumps = (omega arith, (omega arith, ahead), (omega arith, tt, (omega arith, (omega arith, over), fit_b'))) in
-      both_fit heights place height (height + 1) (ca ++ jumps) truth_code both
-      (both_fit heights place height (height + 1) ca jumps one fit_a fit_jumps)
-      (straight_fit heights (place + length (ca ++ jumps)) (height + 1) truth_code (truth_finds height))
+      let fit_jumps : AllFit heights (height + 1) jumps = (omega arith, ahead, (omega arith, tt, (omega arith, over, fit_b'))) in
+      both_fit heights height (height + 1) (ca ++ jumps) truth_code both
+      (both_fit heights height (height + 1) ca jumps one fit_a fit_jumps)
+      (straight_fit heights (height + 1) truth_code (truth_finds height))
 
   pub expression_fits : (e : Expression) → FitsAt e
   expression_fits (Number value) place height h end = (omega arith, tt, tt)

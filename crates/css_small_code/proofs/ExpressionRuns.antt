@@ -2,12 +2,13 @@
 use Rattle.std.proofs.Common.{◌≡◌, ℕ, ◌+◌, ℤ, pos, Bool, true, false, not, int_eq, if◌then◌else◌, List, [], ◌∷◌, ◌++◌, length, Option, Some, None, refl, sym, ap, ◌∙◌, subst, arith, length-append}
 use Rattle.css_base.specs.declared.int_type.IntType.TheVariants.{Int}
 use Rattle.css_base.specs.declared.ending.FaultKind.TheVariants.{DivideByZero}
+use Rattle.css_base.specs.declared.ending.Stop.TheVariants as stops
 use Rattle.css_num.specs.declared.operators.UnOp.{UnOp}
 use Rattle.css_num.specs.declared.operators.BinOp.{BinOp}
 use Rattle.css_num.specs.Types.{IsInRange}
 use Rattle.css_num.specs.Conversion.{converted}
 use Rattle.css_num.specs.Operators.{truth_value, unary_value, binary_value}
-use Rattle.css_semantics.specs.Dialogue.{Load, Tape, World, Outcome, Goes, Faulted, item, Fault, then_do, ask}
+use Rattle.css_semantics.specs.Dialogue.{Load, Tape, World, Outcome, Goes, Stopped, item, Fault, then_do, ask}
 use Rattle.css_vm.specs.declared.code.Op.TheVariants as ops
 use Rattle.css_vm.specs.Code.{Routine}
 use Rattle.css_vm.specs.Cells.{cell_of}
@@ -15,7 +16,7 @@ use Rattle.css_vm.specs.Machine.{At, On}
 use Rattle.css_small.specs.Tree.{Expression, Number, Variable, Unary, Binary, And, Or}
 use Rattle.css_small_code.specs.Code.{truth_code, unary_code, binary_code, expression_code}
 use Rattle.css_small_code.specs.Meaning.{place_of, address_of, given, is_true, load, value_of}
-use Rattle.css_small_code.specs.Numbers.{IsWithin}
+use Rattle.css_small.specs.Numbers.{IsWithin}
 use Rattle.css_small_code.proofs.Runs.{Landing, Runs, Gives, runs_done, runs_steps, runs_stops, runs_known, then_assoc}
 use Rattle.css_small_code.proofs.Steps.{From, Value, OpAt, runs_quiet, runs_asking, value_at}
 use Rattle.css_small_code.proofs.LineStands.{OpsStand, ops_front, ops_back}
@@ -63,7 +64,7 @@ module _ (w : World) (f : Routine) (base line n : ℕ) where
   given_runs : (op : BinOp) (x y : ℤ) (o : Option ℤ) (place : ℕ) (stack : List ℕ) (t : Tape) → binary_value op Int x y ≡ o → OpsStand f.body line place (binary_code op) → IsInRange Int x → IsInRange Int y →
       Runs n (From w f base place (cell_of y ∷ cell_of x ∷ stack) t) (Value w f base (place + length (binary_code op)) stack) (given o line t)
   given_runs op x y None place stack t gives h first second =
-      runs_stops (length (binary_code op)) (Faulted DivideByZero line) (item (Fault DivideByZero) line ∷ t) (λ k. binary_stops w f line base place op x y stack t k h first second gives)
+      runs_stops (length (binary_code op)) (Stopped (stops.Fault DivideByZero) line) (item (Fault DivideByZero) line ∷ t) (λ k. binary_stops w f line base place op x y stack t k h first second gives)
   given_runs op x y (Some z) place stack t gives h first second =
       let end = place + length (binary_code op) in
       runs_steps (length (binary_code op)) (λ k. Value w f base end stack k z t) (λ k. binary_runs w f line base place op x y z stack t k h first second gives) (runs_done n (Value w f base end stack) z t)
@@ -85,7 +86,7 @@ module _ (w : World) (f : Routine) (base line n : ℕ) where
       given_runs op x y (binary_value op Int x y) (mid + length cb) stack t'' refl last x_int y_int)))
 
   -- a jump where a value is 0
-  jumpz_runs : {land : Landing ℤ} (to place : ℕ) (x : ℤ) (stack : List ℕ) (t : Tape) (past there : Outcome ℤ) (zero : Bool) → int_eq x (pos 0) ≡ zero → IsInRange Int x → OpAt w f base line place (ops.Jumpz to) →
+  pub jumpz_runs : {A : Type 0} {land : Landing A} (to place : ℕ) (x : ℤ) (stack : List ℕ) (t : Tape) (past there : Outcome A) (zero : Bool) → int_eq x (pos 0) ≡ zero → IsInRange Int x → OpAt w f base line place (ops.Jumpz to) →
       Runs n (From w f base (place + 1) stack t) land past → Runs n (From w f base to stack t) land there → Runs n (From w f base place (cell_of x ∷ stack) t) land (if not zero then past else there)
   jumpz_runs to place x stack t past there true test int h behind ahead =
       runs_quiet w f base line (ops.Jumpz to) to stack h (ap (λ b. if b then Goes (On (At base to stack)) t else Goes (On (At base (place + 1) stack)) t) (zero_test x int ∙ test)) ahead

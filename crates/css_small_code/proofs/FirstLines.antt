@@ -6,7 +6,7 @@ use Rattle.css_vm.specs.declared.code.Op.{Op}
 use Rattle.css_vm.specs.declared.code.Op.TheVariants as ops
 use Rattle.css_vm.specs.declared.code.Conversion.TheVariants as conversions
 use Rattle.css_vm.specs.Code.{first_line}
-use Rattle.css_small.specs.Tree.{Statement, Declare, Initialise, Empty, Assign, Put, Return, Block, Statements, End, More, Program}
+use Rattle.css_small.specs.Tree.{Statement, Declare, Initialise, Empty, Assign, Put, Return, Block, If, IfElse, While, Statements, End, More, Program}
 use Rattle.css_small_code.specs.Code.{in_line, expression_code, statement_code, statements_code, end_code, entry_code}
 use Rattle.css_small_code.specs.Lines.{line_in, line_in_all}
 
@@ -14,6 +14,13 @@ use Rattle.css_small_code.specs.Lines.{line_in, line_in_all}
 first_in_line : (line : ℕ) (xs : List Op) (y : Op) (ys : List Op) (rest : List Instr) → first_line (in_line line (xs ++ y ∷ ys) ++ rest) ≡ line
 first_in_line line [] y ys rest = refl
 first_in_line line (x ∷ xs) y ys rest = refl
+
+-- the code begins in the line, whatever stands behind it
+abbrev Begins : ℕ → List Instr → Type 0
+Begins line code = (rest : List Instr) → first_line (code ++ rest) ≡ line
+
+begins_both : (line : ℕ) (xs ys : List Instr) → Begins line xs → Begins line (xs ++ ys)
+begins_both line xs ys h rest = ap first_line (append_assoc xs ys rest) ∙ h (ys ++ rest)
 
 -- by the first of two parts or by the second
 first_of_both : (a b : Option ℕ) (default : ℕ) → unwrap_or a (unwrap_or b default) ≡ unwrap_or (option_or a b) default
@@ -29,6 +36,29 @@ mutual
   first_of_statement (Put line e) at rest = first_in_line line (expression_code e at) (ops.Out conversions.Char) (ops.Drop ∷ []) rest
   first_of_statement (Return line e) at rest = first_in_line line (expression_code e at) ops.Ret [] rest
   first_of_statement (Block line all) at rest = first_of_statements all at rest
+  first_of_statement (If line e s) at rest =
+      let ce = expression_code e at in
+      let first = at + length ce + 1 in
+      let cs = statement_code s first in
+      let test = ops.Jumpz (first + length cs) in
+      begins_both line (in_line line (ce ++ test ∷ [])) cs (first_in_line line ce test []) rest
+  first_of_statement (IfElse line e s other) at rest =
+      let ce = expression_code e at in
+      let first = at + length ce + 1 in
+      let cs = statement_code s first in
+      let second = first + length cs + 1 in
+      let co = statement_code other second in
+      let test = ops.Jumpz second in
+      let jump = in_line line (ops.Jump (second + length co) ∷ []) in
+      let head = in_line line (ce ++ test ∷ []) in
+      begins_both line (head ++ cs ++ jump) co (begins_both line (head ++ cs) jump (begins_both line head cs (first_in_line line ce test []))) rest
+  first_of_statement (While line e s) at rest =
+      let ce = expression_code e at in
+      let first = at + length ce + 2 in
+      let cs = statement_code s first in
+      let test = ops.Jumpz (first + length cs + 1) in
+      let head = in_line line (ce ++ test ∷ ops.Turn ∷ []) in
+      begins_both line (head ++ cs) (in_line line (ops.Jump at ∷ [])) (begins_both line head cs (first_in_line line ce test (ops.Turn ∷ []))) rest
 
   pub first_of_statements : (all : Statements) (at : ℕ) (rest : List Instr) → first_line (statements_code all at ++ rest) ≡ unwrap_or (line_in_all all) (first_line rest)
   first_of_statements End at rest = refl

@@ -1,14 +1,13 @@
--- Stack heights along a code, and what has to be shown of them: then the code is sound, by the plan whose ranks are the numbers of
--- instructions left.
-use Rattle.std.proofs.Common.{◌≡◌, ℕ, zero, suc, ◌+◌, ◌-◌, ◌<◌, ◌≤◌, List, [], ◌∷◌, ◌++◌, length, map, Some, refl, sym, ap, ◌∙◌, subst, arith}
+-- Stack heights along a code, and what has to be shown of them.
+use Rattle.std.proofs.Common.{◌≡◌, ℕ, zero, suc, ◌+◌, ◌-◌, ◌≤◌, List, [], ◌∷◌, ◌++◌, length, map, Some, refl, sym, ap, ◌∙◌, subst, arith}
 use Rattle.std.specs.Prelude.{slice_get}
-use Rattle.std.proofs.lemmas.Option.{same_Some, slice_get_within}
+use Rattle.std.proofs.lemmas.Option.{same_Some}
 use Rattle.css_vm.specs.declared.code.Instr.{Instr}
 use Rattle.css_vm.specs.declared.code.Op.{Op}
 use Rattle.css_vm.specs.declared.code.Op.TheVariants as ops
 use Rattle.css_vm.specs.Code.{Routine}
-use Rattle.css_vm.specs.Soundness.{Spot, Leads, takes, gives, needs, GoesOn, IsFine, IsSound}
-use Rattle.css_small_code.proofs.Stands.{Stands, stands_front, stands_back, stands_whole}
+use Rattle.css_vm.specs.Soundness.{takes, gives, needs}
+use Rattle.css_small_code.proofs.Stands.{Stands, stands_front, stands_back}
 
 -- The height at the next place. What stands behind a jump is reached from elsewhere, without what the jump has on top.
 abbrev pub leaves : Op → ℕ → ℕ
@@ -49,24 +48,21 @@ ends_behind (x ∷ []) (y ∷ ys) h = h
 ends_behind (x ∷ next ∷ xs) ys h = ends_behind (next ∷ xs) ys h
 
 module _ (heights : List ℕ) where
-  -- a jump leads ahead, to a place with the height that it leaves there
-  abbrev pub Lands : ℕ → ℕ → Op → Type 0
-  Lands place height (ops.Jump to) = (place < to) × (slice_get heights to ≡ Some height)
-  Lands place height (ops.Jumpz to) = (place < to) × (slice_get heights to ≡ Some (height - 1))
-  Lands place height _ = Unit {0}
+  -- a jump leads to a place with the height that it leaves there
+  abbrev pub Lands : ℕ → Op → Type 0
+  Lands height (ops.Jump to) = slice_get heights to ≡ Some height
+  Lands height (ops.Jumpz to) = slice_get heights to ≡ Some (height - 1)
+  Lands height _ = Unit {0}
 
   -- each operator of a code finds its cells, and its jump leads to the right height
-  abbrev pub AllFit : ℕ → ℕ → List Op → Type 0
-  AllFit place height [] = Unit {0}
-  AllFit place height (op ∷ all) = (needs op ≤ height) × Lands place height op × AllFit (place + 1) (leaves op height) all
+  abbrev pub AllFit : ℕ → List Op → Type 0
+  AllFit height [] = Unit {0}
+  AllFit height (op ∷ all) = (needs op ≤ height) × Lands height op × AllFit (leaves op height) all
 
   -- one part behind another
-  pub both_fit : (place height mid : ℕ) (xs ys : List Op) → behind height xs ≡ mid → AllFit place height xs → AllFit (place + length xs) mid ys → AllFit place height (xs ++ ys)
-  both_fit place height mid [] ys e a b =
-      let here : place + 0 ≡ place = omega arith in subst (λ p. AllFit p height ys) here (subst (λ h. AllFit (place + 0) h ys) (sym e) b)
-  both_fit place height mid (op ∷ xs) ys e a b =
-      let there : place + length (op ∷ xs) ≡ place + 1 + length xs = omega arith in
-      (a.0, a.1, both_fit (place + 1) (leaves op height) mid xs ys e a.2 (subst (λ p. AllFit p mid ys) there b))
+  pub both_fit : (height mid : ℕ) (xs ys : List Op) → behind height xs ≡ mid → AllFit height xs → AllFit mid ys → AllFit height (xs ++ ys)
+  both_fit height mid [] ys e a b = subst (λ h. AllFit h ys) (sym e) b
+  both_fit height mid (op ∷ xs) ys e a b = (a.0, a.1, both_fit (leaves op height) mid xs ys e a.2 b)
 
   -- the heights of a code stand at its place
   abbrev pub HeightsStand : ℕ → ℕ → List Op → Type 0
@@ -86,7 +82,7 @@ module _ (heights : List ℕ) where
   first_height place height (op ∷ all) h end = h.0
 
   -- the height at the next place, if an operator goes on there
-  abbrev Next : ℕ → ℕ → Op → Type 0
+  abbrev pub Next : ℕ → ℕ → Op → Type 0
   Next place height ops.Ret = Unit {0}
   Next place height op = slice_get heights (place + 1) ≡ Some (leaves op height)
 
@@ -99,14 +95,14 @@ module _ (heights : List ℕ) where
   next_at place height op (next ∷ all) ends h = next_is place height op h.0
 
   -- an operator with what holds of it at a height's place
-  record Fits (place height : ℕ) (all : List Op) (k : ℕ) : Type 0 where
-    op : Op
-    is : slice_get all k ≡ Some op
-    finds : needs op ≤ height
-    lands : Lands place height op
-    next : Next place height op
+  pub record Fits (place height : ℕ) (all : List Op) (k : ℕ) : Type 0 where
+    pub op : Op
+    pub is : slice_get all k ≡ Some op
+    pub finds : needs op ≤ height
+    pub lands : Lands height op
+    pub next : Next place height op
 
-  fits_at : (start first : ℕ) (all : List Op) (k height : ℕ) → HeightsStand start first all → AllFit start first all → EndsByRet all → slice_get (along first all) k ≡ Some height → Fits (start + k) height all k
+  pub fits_at : (start first : ℕ) (all : List Op) (k height : ℕ) → HeightsStand start first all → AllFit first all → EndsByRet all → slice_get (along first all) k ≡ Some height → Fits (start + k) height all k
   fits_at start first [] k height stand fit ends h = cc
   fits_at start first (op ∷ all) zero height stand fit ends h =
       let here : start ≡ start + 0 = omega arith in
@@ -119,45 +115,6 @@ module _ (heights : List ℕ) where
       let made : Fits (start + 1 + k) height (op ∷ next ∷ all) (suc k) = record { op = later.op; is = later.is; finds = later.finds; lands = later.lands; next = later.next } in
       subst (λ p. Fits p height (op ∷ next ∷ all) (suc k)) there made
 
--- ---- the plan
-
--- the plan with these heights
-abbrev pub ranked : List ℕ → List Spot
-ranked [] = []
-ranked (h ∷ hs) = record { height = h; rank = length (h ∷ hs) } ∷ ranked hs
-
--- the plan's spot at a height's place
-ranked_at : (hs : List ℕ) (place height rank : ℕ) → place + rank ≡ length hs → slice_get hs place ≡ Some height → slice_get (ranked hs) place ≡ Some (record { height = height; rank = rank })
-ranked_at [] place height rank all h = cc
-ranked_at (x ∷ hs) zero height rank all h =
-    let e : length (x ∷ hs) ≡ rank = omega arith in
-    ap (λ r. Some (record { height = x; rank = r })) e ∙ ap (λ y. Some (record { height = y; rank = rank })) (same_Some x height h)
-ranked_at (x ∷ hs) (suc place) height rank all h = ranked_at hs place height rank (omega arith) h
-
--- the height at a spot's place
-height_at : (hs : List ℕ) (place : ℕ) (spot : Spot) → slice_get (ranked hs) place ≡ Some spot → (slice_get hs place ≡ Some spot.height) × (place + spot.rank ≡ length hs)
-height_at [] place spot h = cc
-height_at (x ∷ hs) zero spot h =
-    let e = same_Some _ spot h in (ap (λ s. Some s.height) e, omega (arith, ap (λ s. s.rank) e))
-height_at (x ∷ hs) (suc place) spot h = let b = height_at hs place spot h in (b.0, omega (arith, b.1))
-
-module _ (heights : List ℕ) where
-  -- the plan leads on ahead, where the heights do
-  leads : (place to height : ℕ) (spot : Spot) → place + spot.rank ≡ length heights → place < to → slice_get heights to ≡ Some height → Leads (ranked heights) to spot height
-  leads place to height spot all ahead h =
-      let within : to < length heights = slice_get_within heights to height h in
-      let rank = length heights - to in
-      (record { height = height; rank = rank }, ranked_at heights to height rank (omega arith) h, refl, omega arith)
-
-  goes_on : (place : ℕ) (spot : Spot) (op : Op) → place + spot.rank ≡ length heights → Lands heights place spot.height op → Next heights place spot.height op → GoesOn (ranked heights) place spot op
-  goes_on place spot ops.Ret all lands next = tt
-  goes_on place spot (ops.Jump to) all lands next = leads place to spot.height spot all lands.0 lands.1
-  goes_on place spot (ops.Jumpz to) all lands next =
-      let ahead : spot.height - 1 + 0 ≡ spot.height - 1 = omega arith in
-      let next' = subst (λ h. slice_get heights (place + 1) ≡ Some h) ahead next in
-      (leads place to (spot.height - 1) spot all lands.0 lands.1, leads place (place + 1) (spot.height - 1) spot all (omega arith) next')
-  goes_on place spot op all lands next = leads place (place + 1) (spot.height - takes op + gives op) spot all (omega arith) next
-
 -- ---- the code
 
 abbrev pub ops_of : List Instr → List Op
@@ -167,7 +124,7 @@ pub length-ops_of : (code : List Instr) → length (ops_of code) ≡ length code
 length-ops_of [] = refl
 length-ops_of (i ∷ code) = ap suc (length-ops_of code)
 
-instr_at : (code : List Instr) (k : ℕ) (op : Op) → slice_get (ops_of code) k ≡ Some op → (i : Instr) × (slice_get code k ≡ Some i) × (i.op ≡ op)
+pub instr_at : (code : List Instr) (k : ℕ) (op : Op) → slice_get (ops_of code) k ≡ Some op → (i : Instr) × (slice_get code k ≡ Some i) × (i.op ≡ op)
 instr_at [] k op h = cc
 instr_at (i ∷ code) zero op h = (i, refl, same_Some i.op op h)
 instr_at (i ∷ code) (suc k) op h = instr_at code k op h
@@ -176,24 +133,6 @@ instr_at (i ∷ code) (suc k) op h = instr_at code k op h
 abbrev pub heights_of : Routine → List ℕ
 heights_of f = along 0 (ops_of f.body)
 
-begins_empty : (all : List Op) → EndsByRet all → slice_get (along 0 all) 0 ≡ Some 0
+pub begins_empty : (all : List Op) → EndsByRet all → slice_get (along 0 all) 0 ≡ Some 0
 begins_empty [] ends = absurd ends
 begins_empty (op ∷ all) ends = refl
-
--- code that fits the heights along it is sound
-pub sound : (f : Routine) → EndsByRet (ops_of f.body) → AllFit (heights_of f) 0 0 (ops_of f.body) → IsSound f (ranked (heights_of f))
-sound f ends fit =
-    let heights = heights_of f in
-    let all = ops_of f.body in
-    record {
-      first = (length heights, ranked_at heights 0 0 (length heights) (omega arith) (begins_empty all ends));
-      each = λ place spot h.
-          let b = height_at heights place spot h in
-          let at = fits_at heights 0 0 all place spot.height (stands_whole heights) fit ends b.0 in
-          let i = instr_at f.body place at.op at.is in
-          let here : 0 + place ≡ place = omega arith in
-          let lands = subst (λ p. Lands heights p spot.height at.op) here at.lands in
-          let next = subst (λ p. Next heights p spot.height at.op) here at.next in
-          let fine : IsFine (ranked heights) place spot at.op = record { finds = at.finds; goes_on = goes_on heights place spot at.op b.1 lands next } in
-          (i.0, i.1, subst (IsFine (ranked heights) place spot) (sym i.2) fine, omega (arith, b.1, length-along 0 all, length-ops_of f.body));
-    }

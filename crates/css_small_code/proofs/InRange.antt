@@ -13,7 +13,7 @@ use Rattle.css_num.proofs.Values.{unary_in_range, binary_in_range}
 use Rattle.css_semantics.specs.Dialogue.{Load, Tape, World, Outcome, Goes, then_do, ask}
 use Rattle.css_small.specs.Tree.{Expression, Number, Variable, Unary, Binary, And, Or}
 use Rattle.css_small_code.specs.Meaning.{given, is_true, address_of, value_of}
-use Rattle.css_small_code.specs.Numbers.{IsWithin}
+use Rattle.css_small.specs.Numbers.{IsWithin}
 use Rattle.css_small_code.proofs.Runs.{Gives, gives_any, gives_then}
 
 pub number_in_range : (n : ℕ) → n ≤ 2147483647 → IsInRange Int (pos n)

@@ -24,13 +24,25 @@ pub record Runs {A : Type 0} (n : ℕ) (from : Run) (land : Landing A) (o : Outc
 pub runs_done : {A : Type 0} (n : ℕ) (land : Landing A) (a : A) (t : Tape) → Runs n (λ k. land k a t) land (Goes a t)
 runs_done n land a t = record { by = λ k. (k, omega arith, refl) }
 
-step_to : {A : Type 0} (n : ℕ) (from mid : Run) (land : Landing A) (o : Outcome A) → ((k : ℕ) → from (suc k) ≡ mid k) → RunsTo n mid land o → RunsTo n from land o
+step_to : {A : Type 0} (n : ℕ) (from mid : Run) (land : Landing A) (o : Outcome A) → ((k : ℕ) → from (suc k) ≡ mid k) → RunsTo n mid land o → RunsTo (suc n) from land o
 step_to n from mid land (Goes a t) first r = λ k. let b = r k in (suc b.0, omega (arith, b.1), first b.0 ∙ b.2)
 step_to n from mid land (Stops why t) first r = (suc r.0, omega (arith, r.1), first r.0 ∙ r.2)
 
+fewer_to : {A : Type 0} (m n : ℕ) (from : Run) (land : Landing A) (o : Outcome A) → m ≤ n → RunsTo n from land o → RunsTo m from land o
+fewer_to m n from land (Goes a t) le r = r
+fewer_to m n from land (Stops why t) le r = (r.0, omega (arith, r.1), r.2)
+
+-- at least n steps are at least m
+pub runs_fewer : {A : Type 0} {m n : ℕ} {from : Run} {land : Landing A} {o : Outcome A} → m ≤ n → Runs n from land o → Runs m from land o
+runs_fewer {m = m} {n = n} {from = from} {land = land} {o = o} le r = record { by = fewer_to m n from land o le r.by }
+
+-- one step first, which counts
+pub runs_counted : {A : Type 0} {n : ℕ} {from : Run} (mid : Run) {land : Landing A} {o : Outcome A} → ((k : ℕ) → from (suc k) ≡ mid k) → Runs n mid land o → Runs (suc n) from land o
+runs_counted {n = n} {from = from} mid {land = land} {o = o} first r = record { by = step_to n from mid land o first r.by }
+
 -- one step first
 pub runs_step : {A : Type 0} {n : ℕ} {from : Run} (mid : Run) {land : Landing A} {o : Outcome A} → ((k : ℕ) → from (suc k) ≡ mid k) → Runs n mid land o → Runs n from land o
-runs_step {n = n} {from = from} mid {land = land} {o = o} first r = record { by = step_to n from mid land o first r.by }
+runs_step mid first r = runs_fewer (omega arith) (runs_counted mid first r)
 
 steps_to : {A : Type 0} (n m : ℕ) (from mid : Run) (land : Landing A) (o : Outcome A) → ((k : ℕ) → from (m + k) ≡ mid k) → RunsTo n mid land o → RunsTo n from land o
 steps_to n m from mid land (Goes a t) first r = λ k. let b = r k in (m + b.0, omega (arith, b.1), first b.0 ∙ b.2)

@@ -69,6 +69,7 @@ is_straight ops.Load32s = false
 is_straight ops.Store32 = false
 is_straight (ops.Jump to) = false
 is_straight (ops.Jumpz to) = false
+is_straight ops.Turn = false
 is_straight (ops.Out c) = false
 is_straight ops.Ret = false
 is_straight _ = true

@@ -3,8 +3,8 @@ use Rattle.std.proofs.Common.{◌≡◌, ℕ, ◌≤◌, Vec, Global, refl, ap, 
 use mathlib.Core.Former.{Count}
 use Rattle.css_small.specs.declared.tree.Statement as coded
 use Rattle.css_small.specs.declared.tree.Statement.{Row_of-Statement, end_of-Statement, more_of-Statement, items-the_row-Statement, items_hidden-the_row-Statement-0}
-use Rattle.css_small.specs.Tree.{Expression, Number, Variable, Unary, Binary, And, Or, Statement, Declare, Initialise, Empty, Assign, Put, Return, Block, Statements, End, More, statement, statements, listed}
-use Rattle.css_small_code.specs.Numbers.{IsWithin, AreWithin, AllWithin}
+use Rattle.css_small.specs.Tree.{Expression, Number, Variable, Unary, Binary, And, Or, Statement, Declare, Initialise, Empty, Assign, Put, Return, Block, If, IfElse, While, Statements, End, More, statement, statements, listed}
+use Rattle.css_small.specs.Numbers.{IsWithin, AreWithin, AllWithin}
 
 abbrev row_of : coded.Statement → (n : Count) × Row_of-Statement n
 row_of (coded.Block' line shape row) = (_, row)
@@ -39,6 +39,9 @@ mutual
   are_within_more m n le (Put line e) h = within_more m n le e h
   are_within_more m n le (Return line e) h = within_more m n le e h
   are_within_more m n le (Block line all) h = all_within_more m n le all h
+  are_within_more m n le (If line e s) h = (within_more m n le e h.0, are_within_more m n le s h.1)
+  are_within_more m n le (IfElse line e s other) h = (within_more m n le e h.0, are_within_more m n le s h.1, are_within_more m n le other h.2)
+  are_within_more m n le (While line e s) h = (within_more m n le e h.0, are_within_more m n le s h.1)
 
   pub all_within_more : (m n : ℕ) → m ≤ n → (all : Statements) → AllWithin m all → AllWithin n all
   all_within_more m n le End h = tt

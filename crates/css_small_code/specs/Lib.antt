@@ -2,5 +2,4 @@ pub mod Meaning
 pub mod Code
 pub mod Correct
 pub mod Fuel
-pub mod Numbers
 pub mod Lines

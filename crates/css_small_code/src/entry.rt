@@ -42,7 +42,10 @@ fn line_of(tree: &Statement) -> Option<Line>
         Statement::Initialise { line, .. }
         | Statement::Assign { line, .. }
         | Statement::Put { line, .. }
-        | Statement::Return { line, .. } => Some(*line),
+        | Statement::Return { line, .. }
+        | Statement::If { line, .. }
+        | Statement::IfElse { line, .. }
+        | Statement::While { line, .. } => Some(*line),
         Statement::Block { statements, .. } => first_line(statements),
     }
 }

@@ -3,7 +3,7 @@ ghost use Rattle.std.specs.Prelude.{◌≡◌, ℕ, ◌+◌, ◌*◌, ◌<◌, �
 ghost use Rattle.css_vm.specs.declared.code.Op.TheVariants as ops;
 ghost use Rattle.css_small.specs.Tree.{expression};
 ghost use Rattle.css_small_code.specs.Meaning as meaning;
-ghost use Rattle.css_small_code.specs.Numbers.{IsWithin};
+ghost use Rattle.css_small.specs.Numbers.{IsWithin};
 ghost use Rattle.css_small_code.specs.Code.{in_line, truth_code, expression_code};
 
 use crate::instructions::{emit, emit_all, place_ahead};

@@ -4,7 +4,7 @@ ghost use Rattle.css_small.specs.Tree.{program};
 ghost use Rattle.css_vm.specs.Code.{routine};
 ghost use Rattle.css_small_code.specs.Code.{program_code};
 ghost use Rattle.css_small_code.specs.Correct.{Codes};
-ghost use Rattle.css_small_code.specs.Numbers.{HasNumbers};
+ghost use Rattle.css_small.specs.Numbers.{HasNumbers};
 
 use crate::entry::emit_entry;
 use crate::expressions::place_of;

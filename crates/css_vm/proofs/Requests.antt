@@ -2,22 +2,26 @@
 use Rattle.std.proofs.Common.{◌≡◌, ◌<◌, ℕ, zero, suc, ◌+◌, ◌-◌, ◌%◌, ◌^◌, List, [], ◌∷◌, ◌++◌, length, IsTrue, true, false, refl, sym, ap, ◌∙◌, arith}
 use Rattle.std.proofs.lemmas.List.{append-nil}
 use Rattle.std.proofs.Math.Dec.{eqb-suc-zero}
+use Rattle.css_base.specs.declared.ending.Stop.{Stop}
 use Rattle.css_base.specs.declared.ending.Stop.TheVariants as stops
 use Rattle.css_base.specs.declared.ending.FaultKind.{FaultKind}
 use Rattle.css_base.specs.declared.ending.FaultKind.TheVariants.{DivideByZero, OutsideMemory}
-use Rattle.css_semantics.specs.Dialogue.{Action, Enter, Leave, Load, Store, Out, Fault, End, Reply, Says, Fails, Ends, Tape, World, Outcome, Goes, Stops, Over, Faulted, item, then_do, ask, replied, fault, output, written_by}
-use Rattle.css_semantics.specs.Worlds.{state_after, is_of_memory, Follows}
+use Rattle.css_base.specs.declared.rule.Rule.{Rule}
+use Rattle.css_semantics.specs.Dialogue.{Action, Enter, Turn, Leave, Load, Store, Out, Fault, End, Reply, Says, Fails, Refuses, Tape, World, Outcome, Goes, Stops, Stopped, item, then_do, ask, replied, fault, output, written_by}
+use Rattle.css_semantics.specs.Worlds.{state_after, is_of_machine, Follows}
 use Rattle.css_semantics.specs.Memory.{big_endian_bytes}
 use Rattle.css_vm.specs.declared.code.Op.{Op}
 use Rattle.css_vm.specs.declared.code.Op.TheVariants as ops
 use Rattle.css_vm.specs.declared.code.Narrow.TheVariants as narrows
 use Rattle.css_vm.specs.Cells.{narrowed, quotient_of, remainder_of}
 use Rattle.css_vm.specs.Machine.{State, At, After, On, next, effect}
-use Rattle.css_vm.specs.Events.{Along, IsStop}
+use Rattle.css_vm.specs.Spaces.{IsRefusal}
+use Rattle.css_vm.specs.Events.{Along, StopsAt}
 use Rattle.css_vm.specs.Effects.{Changes, Performs, Halts}
 
-writes_nothing : (action : Action) → IsTrue (is_of_memory action) → written_by action ≡ []
+writes_nothing : (action : Action) → IsTrue (is_of_machine action) → written_by action ≡ []
 writes_nothing (Enter size) h = refl
+writes_nothing Turn h = refl
 writes_nothing (Leave base size) h = refl
 writes_nothing (Load address width) h = refl
 writes_nothing (Store address bytes) h = refl
@@ -44,19 +48,19 @@ module _ {S : Type 0} (reply : S → Action → Reply) (learn : S → Action →
     here w tape,
   )
 
-  module _ (space : S) (action : Action) (line : ℕ) (of_memory : IsTrue (is_of_memory action)) where
-    says : (w : World) (start : S) (tape : Tape) (r : Reply) → Follows w reply learn start → state_after learn start tape ≡ space → reply space action ≡ r → ask w action line tape ≡ replied r line (item action line ∷ tape)
+  module _ (space : S) (action : Action) (line : ℕ) (of_machine : IsTrue (is_of_machine action)) where
+    says : (w : World) (start : S) (tape : Tape) (r : Reply) → Follows w reply learn start → state_after learn start tape ≡ space → reply space action ≡ r → ask w action line tape ≡ replied r (item action line) tape
     says w start tape r follows at e =
-        ap (λ q. replied q line (item action line ∷ tape)) (follows.replies tape (item action line) of_memory ∙ ap (λ s. reply s action) at ∙ e)
+        ap (λ q. replied q (item action line) tape) (follows.replies tape (item action line) of_machine ∙ ap (λ s. reply s action) at ∙ e)
 
     quiet : (tape : Tape) → output (item action line ∷ tape) ≡ output tape
-    quiet tape = ap (λ bytes. output tape ++ bytes) (writes_nothing action of_memory) ∙ append-nil (output tape)
+    quiet tape = ap (λ bytes. output tape ++ bytes) (writes_nothing action of_machine) ∙ append-nil (output tape)
 
     pub along_says : (value : ℕ) → reply space action ≡ Says value → Along reply learn space (learn space action) (λ w tape later. ask w action line tape ≡ Goes value later)
     along_says value e = λ w start tape follows at.
         (item action line ∷ tape, ap (λ s. learn s action) at, quiet tape, says w start tape (Says value) follows at e)
 
-    pub along_fails : reply space action ≡ Fails → Along reply learn space (learn space action) (λ w tape later. ask w action line tape ≡ Stops (Faulted OutsideMemory line) later)
+    along_fails : reply space action ≡ Fails → Along reply learn space (learn space action) (λ w tape later. StopsAt (stops.Fault OutsideMemory) line (ask w action line tape) later)
     along_fails e = λ w start tape follows at.
         let asked = item action line ∷ tape in (
           item (Fault OutsideMemory) line ∷ asked,
@@ -65,8 +69,14 @@ module _ {S : Type 0} (reply : S → Action → Reply) (learn : S → Action →
           says w start tape Fails follows at e,
         )
 
-    pub along_ends : reply space action ≡ Ends → Along reply learn space space (λ w tape later. ask w action line tape ≡ Stops Over (item action line ∷ later))
-    along_ends e = λ w start tape follows at. (tape, at, refl, says w start tape Ends follows at e)
+    along_refuses : (rule : Rule) → reply space action ≡ Refuses rule → Along reply learn space space (λ w tape later. StopsAt (stops.Rule rule) line (ask w action line tape) later)
+    along_refuses rule e = λ w start tape follows at. (tape, at, refl, says w start tape (Refuses rule) follows at e)
+
+    -- what is asked is refused, and there the dialogue stops
+    pub along_refused : (r : Reply) (stop : Stop) → reply space action ≡ r → IsRefusal r stop → (end : S) × Along reply learn space end (λ w tape later. StopsAt stop line (ask w action line tape) later)
+    along_refused (Says value) stop e refusal = absurd refusal
+    along_refused Fails stop e refusal = (learn space action, rw refusal (along_fails e))
+    along_refused (Refuses rule) stop e refusal = (space, rw refusal (along_refuses rule e))
 
   -- ---- instructions
 
@@ -85,11 +95,11 @@ module _ {S : Type 0} (reply : S → Action → Reply) (learn : S → Action →
       height = omega arith;
     }
 
-    pub halts_load : reply space (Load (a % 2 ^ 32) 4) ≡ Fails → space' ≡ learn space (Load (a % 2 ^ 32) 4) → Halts reply learn ops.Load32s base (a ∷ rest) space (stops.Fault OutsideMemory) space'
-    halts_load fails learns = record {
+    pub halts_load : (stop : Stop) → IsRefusal (reply space (Load (a % 2 ^ 32) 4)) stop → Halts reply learn ops.Load32s base (a ∷ rest) space stop
+    halts_load stop refusal = record {
       stops = λ f line place.
-          rw learns
-          (along_map (λ w tape later e. ap (λ o. then_do o (λ value t. next w f line base place (narrowed narrows.S32 value ∷ rest) t)) e) (along_fails space (Load (a % 2 ^ 32) 4) line refl fails));
+          let refused = along_refused space (Load (a % 2 ^ 32) 4) line refl (reply space (Load (a % 2 ^ 32) 4)) stop refl refusal in
+          (refused.0, along_map (λ w tape later e. ap (λ o. then_do o (λ value t. next w f line base place (narrowed narrows.S32 value ∷ rest) t)) e) refused.1);
     }
 
     module _ (v : ℕ) where
@@ -101,11 +111,11 @@ module _ {S : Type 0} (reply : S → Action → Reply) (learn : S → Action →
         height = omega arith;
       }
 
-      pub halts_store : reply space (Store (a % 2 ^ 32) (big_endian_bytes 4 v)) ≡ Fails → space' ≡ learn space (Store (a % 2 ^ 32) (big_endian_bytes 4 v)) → Halts reply learn ops.Store32 base (v ∷ a ∷ rest) space (stops.Fault OutsideMemory) space'
-      halts_store fails learns = record {
+      pub halts_store : (stop : Stop) → IsRefusal (reply space (Store (a % 2 ^ 32) (big_endian_bytes 4 v))) stop → Halts reply learn ops.Store32 base (v ∷ a ∷ rest) space stop
+      halts_store stop refusal = record {
         stops = λ f line place.
-            rw learns
-            (along_map (λ w tape later e. ap (λ o. then_do o (λ value t. next w f line base place (v ∷ rest) t)) e) (along_fails space (Store (a % 2 ^ 32) (big_endian_bytes 4 v)) line refl fails));
+            let refused = along_refused space (Store (a % 2 ^ 32) (big_endian_bytes 4 v)) line refl (reply space (Store (a % 2 ^ 32) (big_endian_bytes 4 v))) stop refl refusal in
+            (refused.0, along_map (λ w tape later e. ap (λ o. then_do o (λ value t. next w f line base place (v ∷ rest) t)) e) refused.1);
       }
 
   module _ (base a : ℕ) (rest : List ℕ) (space : S) where
@@ -117,12 +127,12 @@ module _ {S : Type 0} (reply : S → Action → Reply) (learn : S → Action →
     performs_rems zero some = absurd (omega arith)
     performs_rems (suc b) some = performs_change ops.Rems base (suc b ∷ a ∷ rest) (remainder_of a (suc b) ∷ rest) space (record { does = λ w f line place tape. rw (eqb-suc-zero b); height = omega arith })
 
-    pub halts_divs : Halts reply learn ops.Divs base (0 ∷ a ∷ rest) space (stops.Fault DivideByZero) space
+    pub halts_divs : Halts reply learn ops.Divs base (0 ∷ a ∷ rest) space (stops.Fault DivideByZero)
     halts_divs = record {
-      stops = λ f line place. along_fault space DivideByZero line (λ w tape later. IsStop (stops.Fault DivideByZero) line (effect w f line base place ops.Divs (0 ∷ a ∷ rest) tape) later) (λ w tape. refl);
+      stops = λ f line place. (space, along_fault space DivideByZero line (λ w tape later. StopsAt (stops.Fault DivideByZero) line (effect w f line base place ops.Divs (0 ∷ a ∷ rest) tape) later) (λ w tape. refl));
     }
 
-    pub halts_rems : Halts reply learn ops.Rems base (0 ∷ a ∷ rest) space (stops.Fault DivideByZero) space
+    pub halts_rems : Halts reply learn ops.Rems base (0 ∷ a ∷ rest) space (stops.Fault DivideByZero)
     halts_rems = record {
-      stops = λ f line place. along_fault space DivideByZero line (λ w tape later. IsStop (stops.Fault DivideByZero) line (effect w f line base place ops.Rems (0 ∷ a ∷ rest) tape) later) (λ w tape. refl);
+      stops = λ f line place. (space, along_fault space DivideByZero line (λ w tape later. StopsAt (stops.Fault DivideByZero) line (effect w f line base place ops.Rems (0 ∷ a ∷ rest) tape) later) (λ w tape. refl));
     }

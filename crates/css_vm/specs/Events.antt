@@ -3,6 +3,9 @@ use Rattle.std.specs.Prelude.{◌≡◌, ℕ, suc, ◌+◌, ◌<◌, ◌≤◌, 
 use Rattle.css_base.specs.declared.ending.Stop.{Stop}
 use Rattle.css_semantics.specs.Dialogue.{Action, Reply, Out, Tape, World, Outcome, Stops, Stopped, then_do, ask, output}
 use Rattle.css_semantics.specs.Worlds.{state_after, Follows}
+use Rattle.css_semantics.specs.Units.{with_units, metered, spending}
+use Rattle.css_vm.specs.declared.activation.Step.{Step}
+use Rattle.css_vm.specs.declared.activation.Step.TheVariants as steps
 use Rattle.css_vm.specs.declared.machine.Event.{Event}
 use Rattle.css_vm.specs.declared.machine.Event.TheVariants as events
 use Rattle.css_vm.specs.Code.{Routine}
@@ -32,6 +35,16 @@ StopsAt stop line o tape = o ≡ Stops (Stopped stop line) tape
 pub record Ran {S : Type 0} (reply : S → Action → Reply) (learn : S → Action → S) (f : Routine) (old : State) (space : S) (steps : ℕ) (new : State) (space' : S) : Type 0 where
   pub goes : Along reply learn space space' (λ w tape later. (n : ℕ) → exec w f (steps + n) old tape ≡ exec w f n new later)
   pub falls : (plan : List Spot) (rank : ℕ) → IsSound f plan → IsAt f plan rank old → (next : ℕ) × (next + steps ≤ rank) × IsAt f plan next new
+
+-- The units and the rank don't rise: fewer units are left, or as many and the rank is no higher.
+abbrev pub IsNoHigher : ℕ → ℕ → ℕ → ℕ → Type 0
+IsNoHigher units' rank' units rank = (units' < units) ⊎ ((units' ≡ units) × (rank' ≤ rank))
+
+-- The machine goes on by itself over a space and with units, and the units and its rank don't rise.
+pub record Went {S : Type 0} (reply : S → Action → Reply) (learn : S → Action → S) (f : Routine) (old : State) (space : S) (units : ℕ) (new : State) (space' : S) (units' : ℕ) : Type 0 where
+  pub steps : ℕ
+  pub goes : Along (metered reply) (spending learn) (with_units space units) (with_units space' units') (λ w tape later. (n : ℕ) → exec w f (steps + n) old tape ≡ exec w f n new later)
+  pub falls : (plan : List Spot) (rank : ℕ) → IsSound f plan → IsAt f plan rank old → (next : ℕ) × IsAt f plan next new × IsNoHigher units' next units rank
 
 -- From a tape on, the machine goes on by itself to a later tape, and then does what the event says, with n steps to spare.
 abbrev pub Does : World → Routine → State → Event → State → Tape → Tape → Type 0
@@ -68,3 +81,20 @@ abbrev pub Leaves : Routine → State → ℕ → Event → State → ℕ → Ty
 Leaves f old units (events.Out bytes) new units' = IsOwed new × Falls f old units new units'
 Leaves f old units (events.Ended value line) new units' = IsInside new
 Leaves f old units (events.Stopped stop line) new units' = Unit {0}
+
+-- what a run to an event reaches and leaves, with units
+abbrev pub Comes : {S : Type 0} → (S → Action → Reply) → (S → Action → S) → Routine → State → S → ℕ → Event → State → S → ℕ → Type 0
+Comes reply learn f old space units e new space' units' =
+    Reaches (metered reply) (spending learn) f old (with_units space units) e new (with_units space' units') × Leaves f old units e new units'
+
+-- a run to a turn, which takes a unit, or to an event
+abbrev pub ComesToTurn : {S : Type 0} → (S → Action → Reply) → (S → Action → S) → Routine → State → S → ℕ → Option Event → State → S → ℕ → Type 0
+ComesToTurn reply learn f old space units None new space' units' = Went reply learn f old space units new space' units' × (units' < units)
+ComesToTurn reply learn f old space units (Some e) new space' units' = Comes reply learn f old space units e new space' units'
+
+-- one step
+abbrev pub Steps : {S : Type 0} → (S → Action → Reply) → (S → Action → S) → Routine → State → S → ℕ → Step → State → S → ℕ → Type 0
+Steps reply learn f old space units steps.GoesOn new space' units' =
+    Ran (metered reply) (spending learn) f old (with_units space units) 1 new (with_units space' units') × (units' ≡ units)
+Steps reply learn f old space units steps.Turns new space' units' = ComesToTurn reply learn f old space units None new space' units'
+Steps reply learn f old space units (steps.Makes e) new space' units' = Comes reply learn f old space units e new space' units'

@@ -3,7 +3,7 @@ ghost use Rattle.std.specs.Prelude.{◌≡◌, [], IfOk};
 ghost use Rattle.css_vm.specs.Machine.{At, answered, IsOwed};
 ghost use Rattle.css_vm.specs.Code.{routine};
 ghost use Rattle.css_vm.specs.Soundness.{Fits};
-ghost use Rattle.css_vm.specs.Events.{Reaches, Leaves, Steps, base_of};
+ghost use Rattle.css_vm.specs.Events.{Comes, ComesToTurn, Steps, base_of};
 
 use crate::code::{Conversion, Function, Instr, Op};
 use crate::machine::Event;
@@ -11,9 +11,20 @@ use crate::operations::{Failure, perform};
 use crate::printed::Printed;
 use crate::space::Space;
 use crate::stack::Stack;
+use crate::units::take_unit;
 use css_base::NoMemory;
 use std::alloc::Global;
 use std::marker::Model;
+
+/// What a step comes to.
+pub(crate) enum Step {
+    /// It goes on.
+    GoesOn,
+    /// It enters a loop's body, and has taken a unit.
+    Turns,
+    /// It makes an event.
+    Makes(Event),
+}
 
 /// The activation of a function. Contracts see the state inside it.
 #[derive(Drop, Debug)]
@@ -60,52 +71,80 @@ impl Activation {
         self.base
     }
 
-    /// Takes the steps up to the next event.
+    /// Takes the steps up to the next event, and a unit at each turn.
     pub(crate) fn run<S: Space>(
         &mut self,
         code: &Function,
         space: &mut S,
+        units: &mut u64,
     ) -> Result<Event, NoMemory>
         requires { Fits (routine code.now) self.old }
-        ensures event { IfOk result (λ e. Reaches S.reply S.learn (routine code.now) self.old space.old e self.new space.new) }
-        ensures leaves { IfOk result (λ e. Leaves (routine code.now) self.old e self.new) }
+        ensures { IfOk result (λ e. Comes S.reply S.learn (routine code.now) self.old space.old units.old e self.new space.new units.new) }
+    {
+        loop {
+            if let Some(event) = self.run_to_turn(code, space, units)? {
+                return Ok(event);
+            }
+        }
+    }
+
+    // Takes the steps up to the next turn, or to the event before it.
+    fn run_to_turn<S: Space>(
+        &mut self,
+        code: &Function,
+        space: &mut S,
+        units: &mut u64,
+    ) -> Result<Option<Event>, NoMemory>
+        requires { Fits (routine code.now) self.old }
+        ensures { IfOk result (λ e. ComesToTurn S.reply S.learn (routine code.now) self.old space.old units.old e self.new space.new units.new) }
     {
         // The rank falls at each step, so there are no more steps than instructions.
         for _ in 0..u64::MAX {
-            if let Some(event) = self.step(code, space)? {
-                return Ok(event);
+            match self.step(code, space, units)? {
+                Step::GoesOn => {}
+                Step::Turns => return Ok(None),
+                Step::Makes(event) => return Ok(Some(event)),
             }
         }
         unreachable!()
     }
 
-    // One step, and the event that it makes, if it makes one.
+    // One step.
     #[inline]
-    fn step<S: Space>(&mut self, code: &Function, space: &mut S) -> Result<Option<Event>, NoMemory>
+    fn step<S: Space>(
+        &mut self,
+        code: &Function,
+        space: &mut S,
+        units: &mut u64,
+    ) -> Result<Step, NoMemory>
         requires { Fits (routine code.now) self.old }
-        ensures { IfOk result (λ e. Steps S.reply S.learn (routine code.now) self.old space.old e self.new space.new) }
+        ensures { IfOk result (λ s. Steps S.reply S.learn (routine code.now) self.old space.old units.old s self.new space.new units.new) }
     {
         let Instr { op, line } = *code.instr_at(self.place);
         self.place += 1;
         match op {
             Op::Jump(to) => {
                 self.place = to as usize;
-                Ok(None)
+                Ok(Step::GoesOn)
             }
             Op::Jumpz(to) => {
                 if self.stack.pop() == 0 {
                     self.place = to as usize;
                 }
-                Ok(None)
+                Ok(Step::GoesOn)
             }
+            Op::Turn => match take_unit(units) {
+                Ok(()) => Ok(Step::Turns),
+                Err(stop) => Ok(Step::Makes(Event::Stopped(stop, line))),
+            },
             Op::Out(Conversion::Char) => {
                 let byte = (self.stack.top() % 256) as u8;
-                Ok(Some(Event::Out(Printed::byte(byte))))
+                Ok(Step::Makes(Event::Out(Printed::byte(byte))))
             }
-            Op::Ret => Ok(Some(Event::Ended(self.stack.top(), line))),
+            Op::Ret => Ok(Step::Makes(Event::Ended(self.stack.top(), line))),
             _ => match perform(op, self.base, &mut self.stack, space) {
-                Ok(()) => Ok(None),
-                Err(Failure::Stop(stop)) => Ok(Some(Event::Stopped(stop, line))),
+                Ok(()) => Ok(Step::GoesOn),
+                Err(Failure::Stop(stop)) => Ok(Step::Makes(Event::Stopped(stop, line))),
                 Err(Failure::NoMemory) => Err(NoMemory),
             },
         }

@@ -9,6 +9,7 @@ mod operations;
 mod printed;
 mod space;
 mod stack;
+mod units;
 
 pub use code::{Conversion, Function, Instr, Narrow, Op, ShiftWidth};
 pub use machine::{Event, Machine};

@@ -1,15 +1,18 @@
 //! The stack machine.
-ghost use Rattle.std.specs.Prelude.{◌≡◌, IfOk};
+ghost use Rattle.std.specs.Prelude.{◌≡◌, ◌<◌, IfOk, IfErr, OnOk};
 ghost use Rattle.css_vm.specs.Machine.{Begin, answered, IsOwed};
 ghost use Rattle.css_vm.specs.Code.{routine};
 ghost use Rattle.css_vm.specs.Soundness.{Fits};
+ghost use Rattle.css_semantics.specs.Dialogue.{Enter, Says};
 ghost use Rattle.css_semantics.specs.Units.{with_units, metered, spending};
+ghost use Rattle.css_vm.specs.Spaces.{IsRefusal};
 ghost use Rattle.css_vm.specs.Events.{Reaches, Leaves, IsInside, base_of};
 
 use crate::activation::Activation;
 use crate::code::Function;
 use crate::printed::Printed;
 use crate::space::Space;
+use crate::units::take_unit;
 use css_base::{Line, NoMemory, Stop};
 use std::alloc::Global;
 use std::marker::Model;
@@ -67,13 +70,13 @@ impl Machine {
         ensures leaves { IfOk result (λ e. Leaves (routine code.now) self.old units.old e self.new units.new) }
     {
         if !self.begun {
-            match space.push_frame(code.frame) {
+            match enter(code, space, units) {
                 Ok(base) => self.activation.begin(base),
                 Err(stop) => return Ok(Event::Stopped(stop, code.instr_at(0).line)),
             }
             self.begun = true;
         }
-        self.activation.run(code, space)
+        self.activation.run(code, space, units)
     }
 
     /// The base of the frame, once the function is entered.
@@ -91,4 +94,16 @@ impl Machine {
     {
         self.activation.answer(value);
     }
+}
+
+// Enters the function's frame, and takes a unit. The rule that refuses the entry, and only then the rule on units.
+fn enter<S: Space>(code: &Function, space: &mut S, units: &mut u64) -> Result<u32, Stop>
+    ensures says { IfOk result (λ base. metered S.reply (with_units space.old units.old) (Enter code.now.frame) ≡ Says base) }
+    ensures learns { OnOk result (with_units space.new units.new ≡ spending S.learn (with_units space.old units.old) (Enter code.now.frame)) }
+    ensures takes { OnOk result (units.new < units.old) }
+    ensures refuses { IfErr result (λ stop. IsRefusal (metered S.reply (with_units space.old units.old) (Enter code.now.frame)) stop) }
+{
+    let base = space.push_frame(code.frame)?;
+    take_unit(units)?;
+    Ok(base)
 }

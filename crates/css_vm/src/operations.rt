@@ -1,6 +1,7 @@
 //! The instructions that go on at the next place.
 ghost use Rattle.std.specs.Prelude.{◌≡◌, ◌<◌, ◌≤◌, ℕ, List, ◌∷◌, length, IfErr, OnOk, IsTrue};
 ghost use Rattle.css_base.specs.declared.ending.Stop.{Stop};
+ghost use Rattle.css_semantics.specs.Units.{with_units, metered, spending};
 ghost use Rattle.css_vm.specs.Soundness.{needs};
 ghost use Rattle.css_vm.specs.Effects.{goes_on, is_silent, needs_no_room, Changes, Performs, Halts};
 
@@ -51,8 +52,8 @@ pub(crate) fn perform<S: Space>(
 ) -> Result<(), Failure>
     requires goes_on { IsTrue (goes_on op) }
     requires finds { needs op ≤ length stack.old }
-    ensures performs { OnOk result (Performs S.reply S.learn op base stack.old space.old stack.new space.new) }
-    ensures halts { (stop : Stop) → result ≡ Err (Failure.Stop stop) → Halts S.reply S.learn op base stack.old space.old stop space.new }
+    ensures performs { OnOk result ((units : ℕ) → Performs (metered S.reply) (spending S.learn) op base stack.old (with_units space.old units) stack.new (with_units space.new units)) }
+    ensures halts { (stop : Stop) → result ≡ Err (Failure.Stop stop) → (units : ℕ) → Halts (metered S.reply) (spending S.learn) op base stack.old (with_units space.old units) stop }
 {
     match op {
         Op::Load32s => Ok(load(stack, space)?),
@@ -66,8 +67,8 @@ pub(crate) fn perform<S: Space>(
 // Puts the 4 bytes at the topmost cell's address in its place.
 fn load<S: Space>(stack: &mut Stack, space: &mut S) -> Result<(), Stop>
     requires { 0 < length stack.old }
-    ensures performs { OnOk result ((base : ℕ) → Performs S.reply S.learn Op.Load32s base stack.old space.old stack.new space.new) }
-    ensures halts { IfErr result (λ stop. (base : ℕ) → Halts S.reply S.learn Op.Load32s base stack.old space.old stop space.new) }
+    ensures performs { OnOk result ((base units : ℕ) → Performs (metered S.reply) (spending S.learn) Op.Load32s base stack.old (with_units space.old units) stack.new (with_units space.new units)) }
+    ensures halts { IfErr result (λ stop. (base units : ℕ) → Halts (metered S.reply) (spending S.learn) Op.Load32s base stack.old (with_units space.old units) stop) }
 {
     let address = (stack.top() % 0x1_0000_0000) as u32;
     let value = space.load(address, Width::W32)?;
@@ -78,8 +79,8 @@ fn load<S: Space>(stack: &mut Stack, space: &mut S) -> Result<(), Stop>
 // Stores the low 4 bytes of the topmost cell at the address below it, and leaves the cell.
 fn store<S: Space>(stack: &mut Stack, space: &mut S) -> Result<(), Stop>
     requires { 2 ≤ length stack.old }
-    ensures performs { OnOk result ((base : ℕ) → Performs S.reply S.learn Op.Store32 base stack.old space.old stack.new space.new) }
-    ensures halts { IfErr result (λ stop. (base : ℕ) → Halts S.reply S.learn Op.Store32 base stack.old space.old stop space.new) }
+    ensures performs { OnOk result ((base units : ℕ) → Performs (metered S.reply) (spending S.learn) Op.Store32 base stack.old (with_units space.old units) stack.new (with_units space.new units)) }
+    ensures halts { IfErr result (λ stop. (base units : ℕ) → Halts (metered S.reply) (spending S.learn) Op.Store32 base stack.old (with_units space.old units) stop) }
 {
     let value = stack.pop();
     let address = (stack.top() % 0x1_0000_0000) as u32;

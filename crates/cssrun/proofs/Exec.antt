@@ -2,7 +2,7 @@
 use Rattle.std.proofs.Common.{◌≡◌, ℕ, zero, suc, ◌+◌, ◌%◌, ◌^◌, List, [], ◌∷◌, ◌++◌, Bool, true, false, if◌then◌else◌, refl, sym, ap, ◌∙◌, append_assoc, add-zero, add-suc}
 use Rattle.std.specs.Prelude.{Option, Some, None, slice_get, nat_eq}
 use Rattle.std.proofs.lemmas.List.{append-nil}
-use Rattle.css_semantics.specs.Dialogue.{Action, Enter, Leave, Load, Store, Out, End, Item, Tape, Reply, Says, Fails, Ends, World, Outcome, Goes, Stops, Tired, then_do, replied, ask, item, output, written_by}
+use Rattle.css_semantics.specs.Dialogue.{Action, Enter, Turn, Leave, Load, Store, Out, End, Item, Tape, Reply, Says, Fails, Refuses, World, Outcome, Goes, Stops, Tired, tape_of, then_do, replied, ask, item, output, written_by}
 use Rattle.css_semantics.specs.Memory.{big_endian_bytes}
 use Rattle.css_vm.specs.declared.code.Instr.{Instr}
 use Rattle.css_vm.specs.declared.code.Op.{Op}
@@ -10,7 +10,6 @@ use Rattle.css_vm.specs.declared.code.Op.TheVariants as ops
 use Rattle.css_vm.specs.declared.code.Conversion.TheVariants as conversions
 use Rattle.css_vm.specs.Code.{Routine, first_line}
 use Rattle.css_vm.specs.Machine.{State, Begin, At, Halt, After, Ended, On, on_one, on_two, on_cell, leaving, next, one, two, division, effect, at_instr, step, go_on, exec}
-use Rattle.cssrun.specs.Answer.{tape_of}
 
 -- an outcome that isn't for want of fuel
 pub record IsSettled (o : Outcome Halt) : Type 0 where
@@ -47,13 +46,14 @@ extends_more {before} {between} {after} one two =
 pub extends_item : (i : Item) (t : Tape) → Extends t (i ∷ t)
 extends_item i t = record { news = i ∷ []; is = refl }
 
-replied-extends : (r : Reply) (line : ℕ) (t : Tape) → Extends t (tape_of (replied r line t))
-replied-extends (Says value) line t = extends_same t
-replied-extends Fails line t = extends_item _ t
-replied-extends Ends line t = extends_same t
+-- a reply does the item, or the item and a fault, or nothing
+replied-extends : (r : Reply) (i : Item) (t : Tape) → Extends t (tape_of (replied r i t))
+replied-extends (Says value) i t = extends_item i t
+replied-extends Fails i t = extends_more (extends_item i t) (extends_item _ (i ∷ t))
+replied-extends (Refuses rule) i t = extends_same t
 
 ask-extends : (w : World) (a : Action) (line : ℕ) (t : Tape) → Extends t (tape_of (ask w a line t))
-ask-extends w a line t = extends_more (extends_item (item a line) t) (replied-extends (w t (item a line)) line (item a line ∷ t))
+ask-extends w a line t = replied-extends (w t (item a line)) (item a line) t
 
 then-extends : {A B : Type 0} (t : Tape) (o : Outcome A) (go : A → Tape → Outcome B) → Extends t (tape_of o)
     → ((a : A) (t' : Tape) → Extends t' (tape_of (go a t'))) → Extends t (tape_of (then_do o go))
@@ -122,6 +122,7 @@ module _ (w : World) (f : Routine) (line base place : ℕ) where
   effect-extends (ops.Conv n) stack t = one-extends _ stack t
   effect-extends (ops.Jump to) stack t = extends_same t
   effect-extends (ops.Jumpz to) stack t = on_one-extends stack t _ (λ a rest. if-extends (nat_eq a 0) _ _ t (extends_same t) (extends_same t))
+  effect-extends ops.Turn stack t = asks-extends w Turn line t _
   effect-extends (ops.Out conversions.Char) stack t = on_one-extends stack t _ (λ a rest. asks-extends w (Out (a % 256 ∷ [])) line t _)
   effect-extends ops.Ret stack t =
       on_one-extends stack t _ (λ a rest. then-extends t (leaving w f.frame base a line t) _ (leaving-extends w f.frame base a line t) (λ h t'. extends_same t'))

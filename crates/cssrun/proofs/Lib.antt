@@ -1,10 +1,9 @@
 pub mod Exec
 pub mod Sinks
-pub mod Flat
 pub mod Turns
-pub mod Programs
+pub mod Parts
+pub mod Fuel
 pub mod Words
-pub mod Numbers
 pub mod Endings
 pub mod Runs
 pub mod OneAnswer

@@ -4,9 +4,9 @@ use Rattle.css_base.specs.declared.static_fault.StaticName.TheVariants as names
 use Rattle.css_small.specs.Tree.{Program}
 use Rattle.css_small.specs.Grammar.{Spells, IsNotBuilt}
 use Rattle.cssrun.specs.Request.{Asks}
-use Rattle.cssrun.specs.Answer.{Answer, IsRunAnswer, IsTextAnswer, Refused, Ended, IsAnswer, WordsRefused, Asked, static_line, memory}
-use Rattle.cssrun.proofs.Programs.{source_ends}
-use Rattle.cssrun.proofs.Runs.{run_answer_is, IsRunStatus, run_answer_status}
+use Rattle.cssrun.specs.Answer.{Answer, IsRunAnswer, IsTextAnswer, Refused, Ended, IsAnswer, WordsRefused, Asked, static_line}
+use Rattle.cssrun.proofs.Fuel.{MoreFuel, EnoughFuel}
+use Rattle.cssrun.proofs.Runs.{one_run_answer, run_answer, IsRunStatus, run_answer_status}
 
 -- what a text that isn't of the part that is built answers
 abbrev pub not_built : Answer
@@ -35,18 +35,20 @@ pub run_answer_of : OnlyOneProgram → (text : List ℕ) (p : Program) → lengt
 run_answer_of only text p short spells a (Refused not is) = absurd (is_built text p short spells not)
 run_answer_of only text p short spells a (Ended q short' spells' run) = subst (λ x. IsRunAnswer x a) (only text q p spells' spells) run
 
-one_text_answer : OnlyOneProgram → (text : List ℕ) (a b : Answer) → IsTextAnswer text a → IsTextAnswer text b → a ≡ b
-one_text_answer only text a b (Refused not is) other = is ∙ sym (not_built_is text not b other)
-one_text_answer only text a b (Ended p short spells run) other =
-    let ends = source_ends memory p in
-    run_answer_is p ends.0 ends.1 a run ∙ sym (run_answer_is p ends.0 ends.1 b (run_answer_of only text p short spells b other))
+one_text_answer : OnlyOneProgram → MoreFuel → (text : List ℕ) (a b : Answer) → IsTextAnswer text a → IsTextAnswer text b → a ≡ b
+one_text_answer only more_fuel text a b (Refused not is) other = is ∙ sym (not_built_is text not b other)
+one_text_answer only more_fuel text a b (Ended p short spells run) other = one_run_answer more_fuel p a b run (run_answer_of only text p short spells b other)
 
 -- words and a text have at most one answer
-pub one_answer_lem : OnlyOneProgram → (words : List (List ℕ)) (text : List ℕ) (a b : Answer) → IsAnswer words text a → IsAnswer words text b → a ≡ b
-one_answer_lem only words text a b (WordsRefused refused is) (WordsRefused refused' is') = is ∙ sym is'
-one_answer_lem only words text a b (WordsRefused refused is) (Asked file asks answer) = absurd (refused file asks)
-one_answer_lem only words text a b (Asked file asks answer) (WordsRefused refused is) = absurd (refused file asks)
-one_answer_lem only words text a b (Asked file asks answer) (Asked file' asks' answer') = one_text_answer only text a b answer answer'
+pub one_answer_lem : OnlyOneProgram → MoreFuel → (words : List (List ℕ)) (text : List ℕ) (a b : Answer) → IsAnswer words text a → IsAnswer words text b → a ≡ b
+one_answer_lem only more_fuel words text a b (WordsRefused refused is) (WordsRefused refused' is') = is ∙ sym is'
+one_answer_lem only more_fuel words text a b (WordsRefused refused is) (Asked file asks answer) = absurd (refused file asks)
+one_answer_lem only more_fuel words text a b (Asked file asks answer) (WordsRefused refused is) = absurd (refused file asks)
+one_answer_lem only more_fuel words text a b (Asked file asks answer) (Asked file' asks' answer') = one_text_answer only more_fuel text a b answer answer'
+
+-- a text that spells a program has an answer
+pub answer_of : EnoughFuel → (text : List ℕ) (p : Program) → length text ≤ 4194304 → Spells text p → (a : Answer) × IsTextAnswer text a
+answer_of enough text p short spells = let run = run_answer enough p in (run.0, Ended p short spells run.1)
 
 -- the status of a text's answer
 pub text_answer_status : (text : List ℕ) (a : Answer) → IsTextAnswer text a → (a.status ≡ 3) ⊎ IsRunStatus a.status

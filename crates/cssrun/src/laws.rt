@@ -5,15 +5,19 @@ ghost use Rattle.css_small.specs.Grammar.{Spells};
 ghost use Rattle.cssrun.specs.Answer.{Answer, IsAnswer, IsTextAnswer};
 
 use css_small::one_program;
+use css_small_code::{enough_fuel, more_fuel};
 
 /// Words and a text have at most one answer.
 pub fn one_answer()
     ensures { (words : List (List ℕ)) (text : List ℕ) (a b : Answer) → IsAnswer words text a → IsAnswer words text b → a ≡ b }
 {
     one_program();
+    more_fuel();
 }
 
 /// A program that is spelled has an answer.
 pub fn programs_have_answers()
     ensures { (text : List ℕ) (p : Program) → length text ≤ 4194304 → Spells text p → (a : Answer) × IsTextAnswer text a }
-{}
+{
+    enough_fuel();
+}

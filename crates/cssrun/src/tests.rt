@@ -1,8 +1,12 @@
 //! Calls of the program over files, input and sinks in memory.
+ghost use Rattle.std.specs.Prelude.{◌≤◌};
 
+use crate::run::{Ran, run_main};
 use crate::top::plain_top;
-use css_base::Words;
+use css_base::{Ending, Limits, Line, Rule, Stop, Who, Words};
 use css_io::{MemShelf, MemSink, MemSource, read_all};
+use css_small::{numbers_fit, read_program};
+use css_small_code::make_code;
 use std::alloc::{AllocError, Global};
 use std::process::Abort;
 use std::test::Fail;
@@ -13,6 +17,9 @@ const PUT_A_AND_B: &str = "int main(void) { putchar(97); putchar(98); return 0; 
 
 const VARIABLES: &str =
     "int main(void) { int x = 65; int y; y = x + 1; { x = y; { putchar(x); } } putchar(y + 1); return x - 66; }";
+
+const COUNTS_TO_3: &str =
+    "int main(void) { int i = 0; while (i < 3) { putchar(97 + i); i = i + 1; } return i / 3; }";
 
 const DIVIDES_BY_ZERO: &str = "int main(void) { putchar(97); return 1 / 0; }";
 
@@ -126,6 +133,137 @@ fn texts_are_answered(rt: HostRuntime) -> Result<(), Fail> {
         expect(&rt, &called, out, report, status);
     }
     Ok(())
+}
+
+/// What an `if`, its `else` and loops do, and what isn't one.
+#[test]
+fn control_goes_on(rt: HostRuntime) -> Result<(), Fail> {
+    let rows = [
+        (COUNTS_TO_3, "abc", "result 1\n", 1),
+        (
+            "int main(void) { if (1) if (0) putchar(97); else putchar(98); return 0; }",
+            "b",
+            "result 0\n",
+            0,
+        ),
+        (
+            "int main(void) { if (0) if (0) putchar(97); else putchar(98); return 0; }",
+            "",
+            "result 0\n",
+            0,
+        ),
+        (
+            "int main(void) { if (1) { if (0) putchar(97); } else putchar(98); return 0; }",
+            "",
+            "result 0\n",
+            0,
+        ),
+        (
+            "int main(void) { int i = 0; while (i < 4) { if (i == 0) putchar(97); else if (i == 1) putchar(98); else putchar(99); i = i + 1; } return 0; }",
+            "abcc",
+            "result 0\n",
+            0,
+        ),
+        (
+            "int main(void) { int i = 1; int j; while (i <= 3) { j = 0; while (j < i) { putchar(96 + i); j = j + 1; } i = i + 1; } return i * 10 + j; }",
+            "abbccc",
+            "result 43\n",
+            1,
+        ),
+        (
+            "int main(void) { int i = 0; while (1) { if (i > 2) return i; putchar(48 + i); i = i + 1; } }",
+            "012",
+            "result 3\n",
+            1,
+        ),
+        (
+            "int main(void) { while (0) putchar(97); while (putchar(98)) ; return 0; }",
+            "",
+            "static S0 NotBuilt line 1\n",
+            3,
+        ),
+        (
+            "int main(void) { int i = 3; while (i) i = i - 1; while (i) putchar(97); if (i) ; else putchar(98); return i; }",
+            "b",
+            "result 0\n",
+            0,
+        ),
+        (
+            "int main(void) {\n  int i = 2;\n  while (6 / i)\n    i = i - 1;\n}",
+            "",
+            "fault DivideByZero line 3 main\n",
+            4,
+        ),
+        (
+            "int main(void) { else putchar(97); return 0; }",
+            "",
+            "static S0 NotBuilt line 1\n",
+            3,
+        ),
+    ];
+    for (text, out, report, status) in rows {
+        let words = ["cssrun", "erased", "f.c"];
+        let called = call(&rt, &words, ("f.c", text.as_bytes()), &NOTHING_FAILS)?;
+        expect(&rt, &called, out, report, status);
+    }
+    Ok(())
+}
+
+/// Runs a program's main with so many units, and sees what it writes and how it ends.
+fn expect_ending(
+    rt: &(impl Abort + AllocGlobal),
+    text: &str,
+    units: u64,
+    written: &str,
+    ending: Ending,
+) -> Result<(), Fail> {
+    let alloc = rt.alloc();
+    let Ok(tree) = read_program(alloc, text.as_bytes()) else {
+        panic!(rt; "it isn't read");
+    };
+    numbers_fit();
+    let code = make_code(alloc, &tree)?;
+    let mut out = MemSink::new(alloc, 64, Vec::new(alloc))?;
+    let ran = run_main(alloc, &code, Limits::DEFAULT.memory, units, &mut out);
+    let Ran::Ended(found) = ran else {
+        panic!(rt; "it doesn't end");
+    };
+    assert_eq!(rt; found, ending);
+    assert_eq!(rt; out.written(), written.as_bytes());
+    Ok(())
+}
+
+/// Main's entry and each entry of a loop's body take a unit. Where none is left, the stop is in the line of main's or the loop's
+/// first token.
+#[test]
+fn units_are_taken(rt: HostRuntime) -> Result<(), Fail> {
+    let endless = "\nint main(void) {\n  putchar(97);\n  while\n    (1)\n    putchar(98);\n}";
+    let nested =
+        "int main(void) {\n  int i = 2;\n  int j;\n  while (i > 0) {\n    j = 2;\n    while (j > 0) {\n      putchar(48 + j); j = j - 1;\n    }\n    i = i - 1;\n  }\n  return 5;\n}";
+    let rows = [
+        (endless, 3, "abb", no_units(4)),
+        (endless, 1, "a", no_units(4)),
+        (endless, 0, "", no_units(2)),
+        (COUNTS_TO_3, 4, "abc", Ending::Result(1)),
+        (COUNTS_TO_3, 3, "ab", no_units(1)),
+        (PUT_A, 1, "a", Ending::Result(0)),
+        (nested, 7, "2121", Ending::Result(5)),
+        (nested, 6, "212", no_units(6)),
+        (nested, 4, "21", no_units(4)),
+    ];
+    for (text, units, written, ending) in rows {
+        expect_ending(&rt, text, units, written, ending)?;
+    }
+    Ok(())
+}
+
+// Main stops in this line, where no unit is left.
+fn no_units(line: u32) -> Ending
+    requires { 1 ≤ line }
+{
+    let (stop, who) = (Stop::Rule(Rule::Units), Who::Main);
+    let line = Line::new(line);
+    Ending::Stopped { stop, line, who }
 }
 
 /// Each expression is 1. What the C standard leaves open is the profile's: results wrap, and a shift takes its count modulo 32.
@@ -269,11 +407,17 @@ fn failures_cut_a_call_short(rt: HostRuntime) -> Result<(), Fail> {
             7,
         ),
     ];
+    let words = ["cssrun", "erased", "f.c"];
     for (failing, out, report, status) in &rows {
-        let words = ["cssrun", "erased", "f.c"];
         let called = call(&rt, &words, ("f.c", PUT_A_AND_B.as_bytes()), failing)?;
         expect(&rt, &called, out, report, *status);
     }
+    let out_fails = Failing {
+        out: &[0],
+        ..NOTHING_FAILS
+    };
+    let called = call(&rt, &words, ("f.c", COUNTS_TO_3.as_bytes()), &out_fails)?;
+    expect(&rt, &called, "", "", 7);
     Ok(())
 }
 

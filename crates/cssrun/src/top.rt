@@ -3,7 +3,7 @@ ghost use Rattle.std.specs.Prelude.{◌≡◌, ◌<◌, ◌≤◌, ◌⊎◌, �
 ghost use Rattle.css_io.specs.Outside.{Rose};
 ghost use Rattle.css_small.specs.Tree.{program};
 ghost use Rattle.css_small.specs.Grammar.{Spells, IsNotBuilt};
-ghost use Rattle.css_small_code.specs.Numbers.{HasNumbers};
+ghost use Rattle.css_small.specs.Numbers.{HasNumbers};
 ghost use Rattle.cssrun.specs.Answer.{Answer, IsAnswer, IsTextAnswer, IsRunAnswer, words_refused, read_fault, no_memory, static_line, ending_line, ending_status};
 ghost use Rattle.cssrun.specs.Request.{Asks, AreRefused};
 ghost use Rattle.cssrun.specs.Ends.{Change, change, HasFailed, Got, Ends, Finishes, IsText, IsWhole, IsCutShort, IsStarved, IsSmooth, ShelfFailed, PlainEnds};
@@ -15,8 +15,8 @@ use crate::request::read_request;
 use crate::run::{Ran, run_main};
 use css_base::{Ending, FrontFault, Limits, StaticFault, Words};
 use css_io::{Shelf, ShelfFault, Sink, Source};
-use css_small::{Program, one_program, read_program};
-use css_small_code::make_code;
+use css_small::{Program, numbers_fit, one_program, read_program};
+use css_small_code::{enough_fuel, make_code, more_fuel};
 use std::alloc::Global;
 
 /// The most bytes of a program's text.
@@ -132,6 +132,7 @@ fn run_text<O: Sink, R: Sink>(alloc: Global, text: &[u8], out: &mut O, report: &
         Ok(tree) => {
             // The text's answer is that of this program, since the text spells no other.
             one_program();
+            numbers_fit();
             run_program(alloc, &tree, out, report)
         }
         Err(FrontFault::Static(fault)) => refuse(alloc, &fault, report),
@@ -158,7 +159,11 @@ fn run_program<O: Sink, R: Sink>(alloc: Global, tree: &Program, out: &mut O, rep
     let Ok(code) = make_code(alloc, tree) else {
         return finish(report, NO_MEMORY, NO_MEMORY_STATUS);
     };
-    match run_main(alloc, &code, Limits::DEFAULT.memory, out) {
+    // The program ends within its units, and that ending is its only one.
+    enough_fuel();
+    more_fuel();
+    let limits = Limits::DEFAULT;
+    match run_main(alloc, &code, limits.memory, limits.main_units, out) {
         Ran::Ended(ending) => end(alloc, &ending, report),
         Ran::WriteFault => WRITE_FAULT_STATUS,
         Ran::NoMemory => finish(report, NO_MEMORY, NO_MEMORY_STATUS),

@@ -1,7 +1,7 @@
 //! Programs whose code is written out by hand.
 ghost use Rattle.std.specs.Prelude.{◌≡◌, ◌≤◌, ◌<◌, IfOk};
 ghost use Rattle.css_small.specs.Tree.{expression, statement, listed, program};
-ghost use Rattle.css_small_code.specs.Numbers.{IsWithin, AreWithin, AllWithin, HasNumbers};
+ghost use Rattle.css_small.specs.Numbers.{IsWithin, AreWithin, AllWithin, HasNumbers};
 
 use super::make_code;
 use css_base::Line;
@@ -74,6 +74,87 @@ fn block_of(line: u32, statements: Vec<Statement>) -> Statement
     Statement::Block {
         line: Line::new(line),
         statements,
+    }
+}
+
+fn if_of(
+    alloc: Global,
+    line: u32,
+    condition: Expression,
+    body: Statement,
+) -> Result<Statement, AllocError>
+    requires starts { 1 ≤ line }
+    requires known { IsWithin 2 (expression condition) }
+    requires within { AreWithin 2 (statement body) }
+    ensures { IfOk result (λ s. AreWithin 2 (statement s)) }
+{
+    Ok(Statement::If {
+        line: Line::new(line),
+        condition,
+        body: Box::new(alloc, body)?,
+    })
+}
+
+fn if_else_of(
+    alloc: Global,
+    line: u32,
+    condition: Expression,
+    body: Statement,
+    other: Statement,
+) -> Result<Statement, AllocError>
+    requires starts { 1 ≤ line }
+    requires known { IsWithin 2 (expression condition) }
+    requires within { AreWithin 2 (statement body) }
+    requires besides { AreWithin 2 (statement other) }
+    ensures { IfOk result (λ s. AreWithin 2 (statement s)) }
+{
+    Ok(Statement::IfElse {
+        line: Line::new(line),
+        condition,
+        body: Box::new(alloc, body)?,
+        other: Box::new(alloc, other)?,
+    })
+}
+
+fn while_of(
+    alloc: Global,
+    line: u32,
+    condition: Expression,
+    body: Statement,
+) -> Result<Statement, AllocError>
+    requires starts { 1 ≤ line }
+    requires known { IsWithin 2 (expression condition) }
+    requires within { AreWithin 2 (statement body) }
+    ensures { IfOk result (λ s. AreWithin 2 (statement s)) }
+{
+    Ok(Statement::While {
+        line: Line::new(line),
+        condition,
+        body: Box::new(alloc, body)?,
+    })
+}
+
+fn assign_of(line: u32, variable: u32, value: Expression) -> Statement
+    requires starts { 1 ≤ line }
+    requires declared { variable < 2 }
+    requires known { IsWithin 2 (expression value) }
+    ensures { AreWithin 2 (statement result) }
+{
+    Statement::Assign {
+        line: Line::new(line),
+        variable,
+        value,
+    }
+}
+
+fn return_of(line: u32, value: Expression) -> Statement
+    requires starts { 1 ≤ line }
+    requires known { IsWithin 2 (expression value) }
+    ensures { AreWithin 2 (statement result) }
+{
+    Statement::Return {
+        line: Line::new(line),
+        value,
     }
 }
 
@@ -248,6 +329,114 @@ const WITH_BOTH: &[(u32, Op)] = &[
     (2, Op::Ret),
 ];
 
+// int main(void) { int x, y;
+//     if (x - 3) y = 7;
+//     return y;
+// }
+fn with_if(alloc: Global) -> Result<Program, AllocError>
+    ensures { IfOk result (λ p. HasNumbers (program p)) }
+{
+    let condition = binary(alloc, BinOp::Sub, variable(0), number(3))?;
+    let first = if_of(alloc, 2, condition, assign_of(2, 1, number(7)))?;
+    let second = return_of(3, variable(1));
+    let body = vec![in alloc; first, second]?;
+    Ok(main_of(1, 4, body))
+}
+
+const WITH_IF: &[(u32, Op)] = &[
+    (1, Op::Push(0)),
+    (1, Op::Drop),
+    (2, Op::Frame(0)),
+    (2, Op::Load32s),
+    (2, Op::Push(3)),
+    (2, Op::Sub),
+    (2, AS_INT),
+    (2, Op::Jumpz(12)),
+    (2, Op::Frame(8)),
+    (2, Op::Push(7)),
+    (2, Op::Store32),
+    (2, Op::Drop),
+    (3, Op::Frame(8)),
+    (3, Op::Load32s),
+    (3, Op::Ret),
+    (4, Op::Push(0)),
+    (4, Op::Ret),
+];
+
+// int main(void) { int x, y;
+//     if (x)
+//         y = 7;
+//     else
+//         x = y;
+// }
+fn with_if_else(alloc: Global) -> Result<Program, AllocError>
+    ensures { IfOk result (λ p. HasNumbers (program p)) }
+{
+    let first = assign_of(3, 1, number(7));
+    let second = assign_of(5, 0, variable(1));
+    let choice = if_else_of(alloc, 2, variable(0), first, second)?;
+    let body = vec![in alloc; choice]?;
+    Ok(main_of(1, 6, body))
+}
+
+const WITH_IF_ELSE: &[(u32, Op)] = &[
+    (1, Op::Push(0)),
+    (1, Op::Drop),
+    (2, Op::Frame(0)),
+    (2, Op::Load32s),
+    (2, Op::Jumpz(10)),
+    (3, Op::Frame(8)),
+    (3, Op::Push(7)),
+    (3, Op::Store32),
+    (3, Op::Drop),
+    (2, Op::Jump(15)),
+    (5, Op::Frame(0)),
+    (5, Op::Frame(8)),
+    (5, Op::Load32s),
+    (5, Op::Store32),
+    (5, Op::Drop),
+    (6, Op::Push(0)),
+    (6, Op::Ret),
+];
+
+// int main(void) { int x, y;
+//     while (x)
+//         { x = y; if (y) return x; }
+// }
+fn with_while(alloc: Global) -> Result<Program, AllocError>
+    ensures { IfOk result (λ p. HasNumbers (program p)) }
+{
+    let first = assign_of(3, 0, variable(1));
+    let second = if_of(alloc, 3, variable(1), return_of(3, variable(0)))?;
+    let block = block_of(3, vec![in alloc; first, second]?);
+    let loops = while_of(alloc, 2, variable(0), block)?;
+    let body = vec![in alloc; loops]?;
+    Ok(main_of(1, 4, body))
+}
+
+const WITH_WHILE: &[(u32, Op)] = &[
+    (1, Op::Push(0)),
+    (1, Op::Drop),
+    (2, Op::Frame(0)),
+    (2, Op::Load32s),
+    (2, Op::Jumpz(18)),
+    (2, Op::Turn),
+    (3, Op::Frame(0)),
+    (3, Op::Frame(8)),
+    (3, Op::Load32s),
+    (3, Op::Store32),
+    (3, Op::Drop),
+    (3, Op::Frame(8)),
+    (3, Op::Load32s),
+    (3, Op::Jumpz(17)),
+    (3, Op::Frame(0)),
+    (3, Op::Load32s),
+    (3, Op::Ret),
+    (2, Op::Jump(2)),
+    (4, Op::Push(0)),
+    (4, Op::Ret),
+];
+
 // The program's instructions are these, each with its line.
 fn assert_code(
     rt: &impl Abort,
@@ -273,5 +462,8 @@ fn codes_of_programs(rt: HostRuntime) -> Result<(), Fail> {
     assert_code(&rt, alloc, &assigning(alloc)?, ASSIGNING)?;
     assert_code(&rt, alloc, &with_and(alloc)?, WITH_AND)?;
     assert_code(&rt, alloc, &with_or(alloc)?, WITH_OR)?;
-    assert_code(&rt, alloc, &with_both(alloc)?, WITH_BOTH)
+    assert_code(&rt, alloc, &with_both(alloc)?, WITH_BOTH)?;
+    assert_code(&rt, alloc, &with_if(alloc)?, WITH_IF)?;
+    assert_code(&rt, alloc, &with_if_else(alloc)?, WITH_IF_ELSE)?;
+    assert_code(&rt, alloc, &with_while(alloc)?, WITH_WHILE)
 }

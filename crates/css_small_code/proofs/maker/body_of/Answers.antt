@@ -1,6 +1,6 @@
 use Rattle.std.proofs.Common.{sym, subst}
 use Rattle.css_small.specs.Tree.{listed, program}
-use Rattle.css_small_code.specs.Numbers.{AllWithin}
+use Rattle.css_small.specs.Numbers.{AllWithin}
 use Rattle.css_small_code.proofs.Trees.{all_within_more}
 use Rattle.css_small_code.proofs.maker.body_of.Goals as goal
 

@@ -1,7 +1,7 @@
 use Rattle.std.proofs.Common.{◌≡◌, ◌++◌, length, drop}
 use Rattle.css_small.specs.Tree.{listed}
 use Rattle.css_small_code.specs.Code.{statements_code}
-use Rattle.css_small_code.specs.Numbers.{AllWithin}
+use Rattle.css_small.specs.Numbers.{AllWithin}
 use Rattle.css_small_code.proofs.statements.+statements.Given as goal
 
 abbrev pub invariant-emit_statements-loop-tree : goal.invariant-emit_statements-loop-tree

@@ -1,5 +1,6 @@
 use Rattle.std.proofs.Common.{◌≡◌, ◌∷◌, ap, ◌∙◌}
 use Rattle.std.proofs.lemmas.Result.{err_from_is_err_and}
+use Rattle.css_semantics.specs.Units.{with_units, metered, spending}
 use Rattle.css_vm.proofs.Requests.{performs_store, halts_store}
 use Rattle.css_vm.proofs.operations.store.Goals as goal
 
@@ -9,8 +10,8 @@ returns-in_err-store-clause-halts g c =
     let exit = err_from_is_err_and c.from_residual.result c.from_residual.ensures.1 in
     let v = c.pop-value.result in
     let stack : c.args.stack.now ≡ v ∷ c.top.result ∷ c.top.ensures.0 = c.pop-value.ensures ∙ ap (λ below. v ∷ below) c.top.ensures.1 in
-    rw (exit.1, exit.2, refused.fails.0, stack)
-    (λ base. halts_store g.S.Space.reply g.S.Space.learn base c.top.result c.top.ensures.0 c.args.space.now c.store.new.self v refused.fails.1 refused.learns)
+    rw (exit.1, stack)
+    (λ base units. halts_store (metered g.S.Space.reply) (spending g.S.Space.learn) base c.top.result c.top.ensures.0 (with_units c.args.space.now units) (with_units c.store.new.self units) v exit.0 (rw exit.2 refused.refuses))
 
 pub returns-clause-performs : goal.returns-clause-performs
 returns-clause-performs g c =
@@ -21,4 +22,4 @@ returns-clause-performs g c =
     let stack : c.args.stack.now ≡ v ∷ c.top.result ∷ c.top.ensures.0 = c.pop-value.ensures ∙ ap (λ below. v ∷ below) below in
     let left : c.set_top.new.self ≡ v ∷ c.top.ensures.0 = cc (below, after.2, after.3) in
     rw (stack, left)
-    (λ base. performs_store g.S.Space.reply g.S.Space.learn base c.top.result c.top.ensures.0 c.args.space.now c.store.new.self v stored.says.0 stored.says.1 stored.learns)
+    (λ base units. performs_store (metered g.S.Space.reply) (spending g.S.Space.learn) base c.top.result c.top.ensures.0 (with_units c.args.space.now units) (with_units c.store.new.self units) v stored.says.0 stored.says.1 (ap (λ s. with_units s units) stored.learns))

@@ -1,5 +1,5 @@
-use Rattle.cssrun.proofs.Programs.{answer_of}
+use Rattle.cssrun.proofs.OneAnswer.{answer_of}
 use Rattle.cssrun.proofs.laws.programs_have_answers.Goals as goal
 
 pub returns : goal.returns
-returns c = answer_of
+returns c = answer_of c.enough_fuel.ensures

@@ -1,38 +1,33 @@
-use Rattle.std.proofs.Common.{◌++◌, ◌+◌, [], refl, length, arith}
-use Rattle.css_io.proofs.Told.{Appends-more}
+use Rattle.std.proofs.Common.{[]}
+use Rattle.css_semantics.specs.Flat.{no_frames}
+use Rattle.css_semantics.specs.Units.{with_units}
 use Rattle.css_vm.specs.Code.{routine}
-use Rattle.cssrun.proofs.Sinks.{Appends-nothing, RanAs-more}
-use Rattle.cssrun.proofs.Turns.{running_begun}
+use Rattle.css_vm.specs.Machine.{Begin}
+use Rattle.cssrun.proofs.Parts.{goes_nowhere, goes_further, goes_to_end, ran_whole, fits_begun}
 use Rattle.cssrun.proofs.run.run_main.Goals as goal
 
-pub loop-init : goal.loop-init
-loop-init g c =
-    let code = c.args.code.now in
+pub loop-ran-init : goal.loop-ran-init
+loop-ran-init g c =
+    let f = routine c.args.code.now in
     rw (c.new-machine.ensures, c.in-Ok.ensures, c.in-Ok-new.ensures) (record {
-      by_plan = (c.requires.sound.0, c.requires.sound.1, (length code.body.items + 1, refl, omega arith));
-      wrote = ([], Appends-nothing _, λ o ending comes is. running_begun c.args.memory (routine code) o comes);
-      never_fell = omega arith;
+      fits = fits_begun f c.requires.sound.0 c.requires.sound.1;
+      goes_on = goes_nowhere g.O.Sink.written g.O.Sink.faults f Begin (with_units (no_frames c.args.memory) c.args.units) [] c.args.out.now;
     })
 
 pub returns-in-Some : goal.returns-in-Some
-returns-in-Some g c = λ o ending comes is.
-    let before = c.loop.invariant.wrote in
-    let ends = c.in-Some.ensures.ends c.args.memory o ending before.0 is (before.2 o ending comes is) in
-    rw ends.1 (RanAs-more g.O.Sink.written g.O.Sink.faults c.args.out.now c.loop.out c.turn.new.out ending before.0 ends.0 c.in-Some.ran before.1 c.loop.invariant.never_fell ends.2)
+returns-in-Some g c =
+    let f = routine c.args.code.now in
+    ran_whole g.O.Sink.written g.O.Sink.faults f c.args.memory c.args.units c.args.out.now c.run_on.new.out c.in-Some.ran
+    (goes_to_end g.O.Sink.written g.O.Sink.faults f Begin c.loop-ran.machine
+    (with_units (no_frames c.args.memory) c.args.units) (with_units c.loop-ran.space c.loop-ran.units) [] c.loop-ran.pending
+    c.args.out.now c.loop-ran.out c.run_on.new.out c.in-Some.ran c.loop-ran.invariant.goes_on c.in-Some.ensures.ends)
 
-pub loop-preserved : goal.loop-preserved
-loop-preserved g c =
-    let before = c.loop.invariant.wrote in
-    let plan = c.loop.invariant.by_plan in
-    let goes_on = c.in_default-turn.ensures.goes_on in
-    let next = goes_on.falls plan.0 plan.2.0 plan.1 plan.2.1 in
-    let told = g.O.Sink.written in
+pub loop-ran-preserved : goal.loop-ran-preserved
+loop-ran-preserved g c =
     record {
-      by_plan = (plan.0, plan.1, (next.0, next.2, omega (arith, next.1, plan.2.2)));
-      wrote = (
-        before.0 ++ goes_on.front,
-        Appends-more (told c.args.out.now) (told c.loop.out) (told c.turn.new.out) before.0 goes_on.front before.1 goes_on.got,
-        λ o ending comes is. goes_on.running c.args.memory o ending before.0 is (before.2 o ending comes is),
-      );
-      never_fell = omega (arith, c.loop.invariant.never_fell, goes_on.never_fell);
+      fits = c.in_default-run_on.ensures.fits;
+      goes_on =
+          goes_further g.O.Sink.written g.O.Sink.faults (routine c.args.code.now) Begin c.loop-ran.machine c.run_on.new.machine
+          (with_units (no_frames c.args.memory) c.args.units) (with_units c.loop-ran.space c.loop-ran.units) (with_units c.run_on.new.space c.run_on.new.units)
+          [] c.loop-ran.pending c.run_on.new.pending c.args.out.now c.loop-ran.out c.run_on.new.out c.loop-ran.invariant.goes_on c.in_default-run_on.ensures.goes_on;
     }

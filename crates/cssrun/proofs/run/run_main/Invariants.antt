@@ -1,18 +1,18 @@
-use Rattle.std.proofs.Common.{◌≡◌, ◌≤◌, ◌+◌, ℕ, ℤ, List, ◌++◌, length, Some}
-use Rattle.css_base.specs.declared.ending.Ending.{Ending}
-use Rattle.css_semantics.specs.Dialogue.{Outcome}
+use Rattle.std.proofs.Common.{[]}
+use Rattle.css_semantics.specs.Flat.{no_frames}
+use Rattle.css_semantics.specs.Units.{with_units}
 use Rattle.css_vm.specs.Code.{routine}
-use Rattle.css_vm.specs.Soundness.{Spot, IsSound, IsAt}
-use Rattle.cssrun.specs.Answer.{ending_of}
-use Rattle.cssrun.specs.Ends.{change, Got}
-use Rattle.cssrun.specs.Running.{ComesTo, Running}
+use Rattle.css_vm.specs.Machine.{Begin}
+use Rattle.css_vm.specs.Soundness.{Fits}
+use Rattle.cssrun.specs.Ends.{change}
+use Rattle.cssrun.specs.Running.{GoesOn}
 use Rattle.cssrun.proofs.run.run_main.Given as goal
 
-abbrev pub invariant-loop : goal.invariant-loop
-invariant-loop g l = record {
-  by_plan : (plan : List Spot) × IsSound (routine l.code) plan × ((rank : ℕ) × IsAt (routine l.code) plan rank l.machine × (rank + l.counter ≤ length l.code.body.items + 1));
-  wrote : (written : List ℕ) × Got (change g.O.Sink.written g.O.Sink.faults l.fn.out l.out) written
-      × ((o : Outcome ℤ) (ending : Ending) → ComesTo l.fn.memory (routine l.code) o → ending_of o ≡ Some ending
-      → Running l.fn.memory (routine l.code) o l.machine l.space (written ++ l.pending));
-  never_fell : g.O.Sink.faults l.fn.out ≤ g.O.Sink.faults l.out;
+abbrev pub decreases-loop-ran : goal.decreases-loop-ran
+decreases-loop-ran g l = l.units
+
+abbrev pub invariant-loop-ran : goal.invariant-loop-ran
+invariant-loop-ran g l = record {
+  fits : Fits (routine l.code) l.machine;
+  goes_on : GoesOn (routine l.code) Begin (with_units (no_frames l.fn.memory) l.fn.units) l.machine (with_units l.space l.units) [] l.pending (change g.O.Sink.written g.O.Sink.faults l.fn.out l.out);
 }

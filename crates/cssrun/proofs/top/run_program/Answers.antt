@@ -3,7 +3,7 @@ use Rattle.css_small.specs.Tree.{program}
 use Rattle.cssrun.specs.Answer.{IsRunAnswer}
 use Rattle.cssrun.specs.Ends.{change}
 use Rattle.cssrun.proofs.Endings.{ends_no_memory, ends_out_failed}
-use Rattle.cssrun.proofs.Runs.{coded, outcome, run_prefix, run_ended}
+use Rattle.cssrun.proofs.Runs.{known, run_prefix, run_ended}
 use Rattle.cssrun.proofs.Sinks.{AppendsPrefix-nothing}
 use Rattle.cssrun.proofs.top.run_program.Goals as goal
 
@@ -13,20 +13,25 @@ returns-in_default g c = ends_no_memory _ _ _ _ (λ a one. AppendsPrefix-nothing
 pub returns-in-Ended : goal.returns-in-Ended
 returns-in-Ended g c =
     let p = program c.args.tree.now in
-    let does = coded (routine c.in-Ok.code) p c.in-Ok.ensures in
-    let ran = c.in-Ended.ensures (outcome p) does.0 does.2 does.1 in
-    run_ended p does.0 does.1 _ _ _ ran.1 (rw ran.0 at c.end.ensures)
+    let code = routine c.in-Ok.code in
+    let k = known c.enough_fuel.ensures code p c.in-Ok.ensures in
+    let ran = c.in-Ended.ensures k.o k.ending k.comes k.ends in
+    run_ended c.more_fuel.ensures code p k _ _ _ ran.1 (rw ran.0 at c.end.ensures)
 
 pub returns-in-WriteFault : goal.returns-in-WriteFault
 returns-in-WriteFault g c =
     let p = program c.args.tree.now in
-    let does = coded (routine c.in-Ok.code) p c.in-Ok.ensures in
-    let ran = c.in-WriteFault.ensures (outcome p) does.0 does.2 does.1 in
-    ends_out_failed (IsRunAnswer p) _ _ ran.0 (run_prefix p does.0 does.1 (change g.O.Sink.written g.O.Sink.faults c.args.out.now c.run_main.new.out) ran.1) (λ bytes. AppendsPrefix-nothing _ bytes)
+    let code = routine c.in-Ok.code in
+    let k = known c.enough_fuel.ensures code p c.in-Ok.ensures in
+    let ran = c.in-WriteFault.ensures k.o k.ending k.comes k.ends in
+    ends_out_failed (IsRunAnswer p) _ _ ran.0
+    (run_prefix c.more_fuel.ensures code p k (change g.O.Sink.written g.O.Sink.faults c.args.out.now c.run_main.new.out) ran.1) (λ bytes. AppendsPrefix-nothing _ bytes)
 
 pub returns : goal.returns
 returns g c =
     let p = program c.args.tree.now in
-    let does = coded (routine c.in-Ok.code) p c.in-Ok.ensures in
-    let ran = c.in-NoMemory.ensures (outcome p) does.0 does.2 does.1 in
-    ends_no_memory (IsRunAnswer p) _ _ _ (run_prefix p does.0 does.1 (change g.O.Sink.written g.O.Sink.faults c.args.out.now c.run_main.new.out) ran) c.finish-in-NoMemory.ensures
+    let code = routine c.in-Ok.code in
+    let k = known c.enough_fuel.ensures code p c.in-Ok.ensures in
+    let ran = c.in-NoMemory.ensures k.o k.ending k.comes k.ends in
+    ends_no_memory (IsRunAnswer p) _ _ _
+    (run_prefix c.more_fuel.ensures code p k (change g.O.Sink.written g.O.Sink.faults c.args.out.now c.run_main.new.out) ran) c.finish-in-NoMemory.ensures

@@ -1,14 +1,13 @@
 use Rattle.css_small.specs.Tree.{program}
 use Rattle.cssrun.specs.Answer.{IsRunAnswer, IsTextAnswer, Ended}
 use Rattle.cssrun.proofs.Endings.{Ends-map, ends_no_memory}
-use Rattle.cssrun.proofs.Numbers.{HasNumbers-spelled}
 use Rattle.cssrun.proofs.OneAnswer.{run_answer_of}
 use Rattle.cssrun.proofs.Sinks.{Appends-nothing, AppendsPrefix-nothing}
 use Rattle.cssrun.proofs.Texts.{text_refused}
 use Rattle.cssrun.proofs.top.run_text.Goals as goal
 
 pub run_program-requires : goal.run_program-requires
-run_program-requires g c = HasNumbers-spelled c.args.text.now (program c.in-Ok.tree) c.in-Ok.ensures.ok.1
+run_program-requires g c = c.numbers_fit.ensures c.args.text.now (program c.in-Ok.tree) c.in-Ok.ensures.ok.1
 
 pub returns-in-Ok : goal.returns-in-Ok
 returns-in-Ok g c =

@@ -1,12 +1,16 @@
 use Rattle.std.proofs.Common.{◌≡◌, ◌+◌, ◌*◌, ◌<◌, ◌≤◌, max, List, [], ◌∷◌, ◌++◌, length, codes, Some, Err, refl, sym, ap, ◌∙◌, subst, arith}
 use Rattle.std.proofs.lemmas.List.{length-map}
 use Rattle.std.proofs.lemmas.Result.{IfOk-weaker}
-use Rattle.css_base.specs.Tokens.{Kind, Lexeme, lexeme, lexemes}
-use Rattle.css_small.specs.Tree.{Statement, Statements, Block, statement, listed, height_of_statement, height_of_statements}
+use Rattle.css_base.specs.Tokens.{Kind, Word, Lexeme, lexeme, lexemes}
+use Rattle.css_small.specs.Tree.{Statement, Statements, Block, statement, listed, height, height_of_statement, height_of_statements}
+use Rattle.css_small.specs.Fronts.{Next, marks}
 use Rattle.css_small.specs.declared.parser.statements.Form.TheVariants as forms
-use Rattle.css_small.specs.Readings.{ReadsForm, ReadsStatements}
+use Rattle.css_small.specs.Readings.{ReadsForm, ReadsStatement, ReadsStatements}
 use Rattle.css_small.proofs.Exits.{passed}
-use Rattle.css_small.proofs.FormReadings.{as_form, from_form, block_parts, statement_shorter}
+use Rattle.css_small.proofs.FormReadings.{as_form, from_form, block_parts, while_parts, if_parts, enclosed_no_longer, statement_shorter, guarded_shorter}
+use Rattle.css_small.proofs.Heights.{next_shorter}
+use Rattle.css_small.proofs.Enclosures.{one_enclosed}
+use Rattle.css_small.proofs.Trees.{one_guarded}
 use Rattle.css_small.proofs.Rows.{statement-Block, with_last, listed-append, height-with_last, one_more_statement, statements_left, first_left}
 use Rattle.css_small.proofs.parser.statements.+statements.Goals as goal
 
@@ -74,3 +78,68 @@ statement-returns-in-Some-Return-clause-ok t c =
     let first = ap lexemes c.in-Some.ensures.cases.0 in
     let is = sym c.in-Some-Return.ensures ∙ ap Some c.in-Some-Return.field-0-is in
     IfOk-weaker c.return_statement.result _ _ (λ x r. from_form c.args.names.now {f = forms.Return} (lexeme c.in-Some.first.now) first is (r _)) c.return_statement.ensures.ok
+
+pub statement-returns-in-Some-If-clause-ok : goal.statement-returns-in-Some-If-clause-ok
+statement-returns-in-Some-If-clause-ok t c =
+    let first = ap lexemes c.in-Some.ensures.cases.0 in
+    let is = sym c.in-Some-If.ensures ∙ ap Some c.in-Some-If.field-0-is in
+    IfOk-weaker c.if_statement.result _ _ (λ x r. from_form c.args.names.now {f = forms.If} (lexeme c.in-Some.first.now) first is (r _)) c.if_statement.ensures.ok
+
+pub statement-returns-in-Some-While-clause-ok : goal.statement-returns-in-Some-While-clause-ok
+statement-returns-in-Some-While-clause-ok t c =
+    let first = ap lexemes c.in-Some.ensures.cases.0 in
+    let is = sym c.in-Some-While.ensures ∙ ap Some c.in-Some-While.field-0-is in
+    IfOk-weaker c.while_statement.result _ _ (λ x r. from_form c.args.names.now {f = forms.While} (lexeme c.in-Some.first.now) first is (r _)) c.while_statement.ensures.ok
+
+-- ---- a condition and what it guards
+
+pub guarded-statement-requires : goal.guarded-statement-requires
+guarded-statement-requires t c =
+    let shorter = enclosed_no_longer c.args.names.now (marks (codes "(")) (marks (codes ")")) c.in_ok-condition.ensures.ok in
+    (omega (arith, length-map c.args.tokens.now lexeme, length-map c.in_ok-condition.behind.now lexeme), tt)
+
+pub guarded-returns-in_err-condition-clause-not_spelled : goal.guarded-returns-in_err-condition-clause-not_spelled
+guarded-returns-in_err-condition-clause-not_spelled t c = λ why e s rest r.
+    let high = c.in_err-condition.ensures.not_spelled (passed c.from_residual.result c.in_err-condition.field-0.0 c.from_residual.ensures.1 why) e r.behind r.condition in
+    omega arith
+
+pub guarded-returns-in_err-next-clause-not_spelled : goal.guarded-returns-in_err-next-clause-not_spelled
+guarded-returns-in_err-next-clause-not_spelled t c = λ why e s rest r.
+    let same = one_enclosed c.args.names.now (marks (codes "(")) (marks (codes ")")) r.condition c.in_ok-condition.ensures.ok in
+    let guards = subst (λ l. ReadsStatement c.args.names.now l s rest) same.1 r.guards in
+    let high = c.in_err-next.ensures.not_spelled (passed c.from_residual-in_err-next.result c.in_err-next.field-0.0 c.from_residual-in_err-next.ensures.1 why) s rest guards in
+    omega arith
+
+-- ---- loops
+
+pub while_statement-returns-in_err-condition-clause-not_spelled : goal.while_statement-returns-in_err-condition-clause-not_spelled
+while_statement-returns-in_err-condition-clause-not_spelled t c = λ why kind s rest r.
+    let x = while_parts c.args.names.now s r in
+    let high = c.in_err-condition.ensures.not_spelled (passed c.from_residual.result c.in_err-condition.field-0.0 c.from_residual.ensures.1 why) x.value x.body rest x.reads in
+    let whole = ap height_of_statement x.is in
+    omega arith
+
+-- ---- branches
+
+pub if_statement-returns-in_err-condition-clause-not_spelled : goal.if_statement-returns-in_err-condition-clause-not_spelled
+if_statement-returns-in_err-condition-clause-not_spelled t c = λ why kind s rest r.
+    let x = if_parts c.args.names.now s r in
+    let high = c.in_err-condition.ensures.not_spelled (passed c.from_residual.result c.in_err-condition.field-0.0 c.from_residual.ensures.1 why) x.value x.body x.middle x.reads in
+    let lower = x.lower in
+    omega arith
+
+pub if_statement-statement-requires : goal.if_statement-statement-requires
+if_statement-statement-requires t c =
+    let first = guarded_shorter c.args.names.now c.in_ok-condition.ensures.ok in
+    let second = next_shorter c.in-Some.ensures.found in
+    (omega (arith, length-map c.args.tokens.now lexeme, length-map c.in_ok-condition.rest.now lexeme, length-map c.in-Some.behind.now lexeme), tt)
+
+pub if_statement-returns-in_err-next-clause-not_spelled : goal.if_statement-returns-in_err-next-clause-not_spelled
+if_statement-returns-in_err-next-clause-not_spelled t c = λ why kind s rest r.
+    let x = if_parts c.args.names.now s r in
+    let middle = one_guarded c.args.names.now x.reads c.in_ok-condition.ensures.ok in
+    let behind = lexemes c.in-Some.behind.now in
+    let other = x.otherwise behind (subst (λ l. Next (Word (codes "else")) l behind) (sym middle) c.in-Some.ensures.found) in
+    let high = c.in_err-next.ensures.not_spelled (passed c.from_residual-in_err-next.result c.in_err-next.field-0.0 c.from_residual-in_err-next.ensures.1 why) other.other rest other.reads in
+    let lower = other.lower in
+    omega arith

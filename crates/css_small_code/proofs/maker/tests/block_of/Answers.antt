@@ -1,5 +1,5 @@
 use Rattle.std.proofs.Common.{sym, subst}
-use Rattle.css_small_code.specs.Numbers.{AreWithin}
+use Rattle.css_small.specs.Numbers.{AreWithin}
 use Rattle.css_small_code.proofs.Trees.{block_is}
 use Rattle.css_small_code.proofs.maker.tests.block_of.Goals as goal
 

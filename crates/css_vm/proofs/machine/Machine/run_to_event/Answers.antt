@@ -1,18 +1,19 @@
+use Rattle.std.proofs.Common.{[]}
 use Rattle.std.proofs.lemmas.Result.{IfOk-weaker}
 use Rattle.css_vm.specs.Code.{routine}
-use Rattle.css_vm.specs.Machine.{Begin}
-use Rattle.css_vm.specs.Events.{Ran}
-use Rattle.css_vm.proofs.Runs.{ran_enter, ran_reaches, ran_leaves, reaches_refusal, first_line_at}
+use Rattle.css_vm.specs.Machine.{Begin, At}
+use Rattle.css_vm.specs.Events.{Went, Comes}
+use Rattle.css_vm.proofs.Runs.{went_enter, went_comes, comes_refused, first_line_at}
 use Rattle.css_vm.proofs.machine.Machine.run_to_event.Goals as goal
 use Rattle.css_vm.proofs.machine.Machine.run_to_event.Goals.{then-not-self+in-Ok, else-not-self}
 
 pub returns-in-Err-clause-event : goal.returns-in-Err-clause-event
 returns-in-Err-clause-event g c =
     let f = routine c.args.code.now in
-    let refused = c.in-Err.ensures in
     let line = first_line_at f.body c.instr_at.result.now c.instr_at.ensures in
-    rw (← c.self.view_is, c.if-not-self.true, refused.ends.0, refused.stays, line)
-    (reaches_refusal g.S.Space.reply g.S.Space.learn f Begin c.args.space.now refused.ends.1)
+    let refused = comes_refused g.S.Space.reply g.S.Space.learn f c.args.self.now c.args.space.now c.enter.new.space c.args.units.now c.enter.new.units c.in-Err.stop c.in-Err.ensures.refuses in
+    rw (← c.self.view_is, c.if-not-self.true, line)
+    (rw (← c.self.view_is, c.if-not-self.true) at refused.0)
 
 pub returns-clause-event : goal.returns-clause-event
 returns-clause-event g c =
@@ -21,13 +22,14 @@ returns-clause-event g c =
     let learn = g.S.Space.learn in
     elim c.if-not-self.branch [
       | then-not-self+in-Ok w ↦
-          let entered : Ran reply learn f Begin c.args.space.now 1 w.begin.new.self w.push_frame.new.self = rw w.begin.ensures (ran_enter reply learn f w.in-Ok.base c.args.space.now w.push_frame.new.self w.in-Ok.ensures.says w.in-Ok.ensures.learns) in
-          let event = rw (w.self-inside-is, w.space-is) at c.run.ensures.event in
+          let entered : Went reply learn f Begin c.args.space.now c.args.units.now w.begin.new.self w.enter.new.space w.enter.new.units =
+          rw w.begin.ensures (went_enter reply learn f w.in-Ok.base c.args.space.now w.enter.new.space c.args.units.now w.enter.new.units w.in-Ok.ensures.says w.in-Ok.ensures.learns w.in-Ok.ensures.takes) in
+          let comes = rw (w.self-inside-is, w.space-is, w.units-is) at c.run.ensures in
           rw (w.self-inside-is, ← c.self.view_is, w.if-not-self.true)
-          (IfOk-weaker c.run.result _ _ (λ e. ran_reaches reply learn f e c.run.new.self c.run.new.space entered) event)
+          (IfOk-weaker c.run.result _ _ (λ e run. (went_comes reply learn f e c.run.new.self c.run.new.space c.run.new.units entered run).0) comes)
       | else-not-self w ↦
-          let event = rw (w.self-inside-is, w.space-is) at c.run.ensures.event in
-          rw (w.self-inside-is, ← c.self.view_is, w.if-not-self.false) event
+          let comes = rw (w.self-inside-is, w.space-is, w.units-is) at c.run.ensures in
+          rw (w.self-inside-is, ← c.self.view_is, w.if-not-self.false) (IfOk-weaker c.run.result _ _ (λ e run. run.0) comes)
     ]
 
 pub returns-clause-leaves : goal.returns-clause-leaves
@@ -37,11 +39,12 @@ returns-clause-leaves g c =
     let learn = g.S.Space.learn in
     elim c.if-not-self.branch [
       | then-not-self+in-Ok w ↦
-          let entered : Ran reply learn f Begin c.args.space.now 1 w.begin.new.self w.push_frame.new.self = rw w.begin.ensures (ran_enter reply learn f w.in-Ok.base c.args.space.now w.push_frame.new.self w.in-Ok.ensures.says w.in-Ok.ensures.learns) in
-          let leaves = rw (w.self-inside-is) at c.run.ensures.leaves in
+          let entered : Went reply learn f Begin c.args.space.now c.args.units.now w.begin.new.self w.enter.new.space w.enter.new.units =
+          rw w.begin.ensures (went_enter reply learn f w.in-Ok.base c.args.space.now w.enter.new.space c.args.units.now w.enter.new.units w.in-Ok.ensures.says w.in-Ok.ensures.learns w.in-Ok.ensures.takes) in
+          let comes = rw (w.self-inside-is, w.space-is, w.units-is) at c.run.ensures in
           rw (w.self-inside-is, ← c.self.view_is, w.if-not-self.true)
-          (IfOk-weaker c.run.result _ _ (λ e. ran_leaves reply learn f e c.run.new.self entered) leaves)
+          (IfOk-weaker c.run.result _ _ (λ e run. (went_comes reply learn f e c.run.new.self c.run.new.space c.run.new.units entered run).1) comes)
       | else-not-self w ↦
-          let leaves = rw (w.self-inside-is) at c.run.ensures.leaves in
-          rw (w.self-inside-is, ← c.self.view_is, w.if-not-self.false) leaves
+          let comes = rw (w.self-inside-is, w.space-is, w.units-is) at c.run.ensures in
+          rw (w.self-inside-is, ← c.self.view_is, w.if-not-self.false) (IfOk-weaker c.run.result _ _ (λ e run. run.1) comes)
     ]
