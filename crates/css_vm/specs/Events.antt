@@ -4,8 +4,8 @@ use Rattle.css_base.specs.declared.ending.Stop.{Stop}
 use Rattle.css_semantics.specs.Dialogue.{Action, Reply, Out, Tape, World, Outcome, Stops, Stopped, then_do, ask, output}
 use Rattle.css_semantics.specs.Worlds.{state_after, Follows}
 use Rattle.css_semantics.specs.Units.{with_units, metered, spending}
-use Rattle.css_vm.specs.declared.activation.Step.{Step}
-use Rattle.css_vm.specs.declared.activation.Step.TheVariants as steps
+use Rattle.css_vm.specs.declared.step.Step.{Step}
+use Rattle.css_vm.specs.declared.step.Step.TheVariants as steps
 use Rattle.css_vm.specs.declared.machine.Event.{Event}
 use Rattle.css_vm.specs.declared.machine.Event.TheVariants as events
 use Rattle.css_vm.specs.Code.{Routine}

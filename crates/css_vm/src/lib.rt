@@ -9,6 +9,7 @@ mod operations;
 mod printed;
 mod space;
 mod stack;
+mod step;
 mod units;
 
 pub use code::{Conversion, Function, Instr, Narrow, Op, ShiftWidth};

@@ -65,6 +65,7 @@ pub(crate) fn perform<S: Space>(
 }
 
 // Puts the 4 bytes at the topmost cell's address in its place.
+#[inline]
 fn load<S: Space>(stack: &mut Stack, space: &mut S) -> Result<(), Stop>
     requires { 0 < length stack.old }
     ensures performs { OnOk result ((base units : ℕ) → Performs (metered S.reply) (spending S.learn) Op.Load32s base stack.old (with_units space.old units) stack.new (with_units space.new units)) }
@@ -77,6 +78,7 @@ fn load<S: Space>(stack: &mut Stack, space: &mut S) -> Result<(), Stop>
 }
 
 // Stores the low 4 bytes of the topmost cell at the address below it, and leaves the cell.
+#[inline]
 fn store<S: Space>(stack: &mut Stack, space: &mut S) -> Result<(), Stop>
     requires { 2 ≤ length stack.old }
     ensures performs { OnOk result ((base units : ℕ) → Performs (metered S.reply) (spending S.learn) Op.Store32 base stack.old (with_units space.old units) stack.new (with_units space.new units)) }
@@ -90,6 +92,7 @@ fn store<S: Space>(stack: &mut Stack, space: &mut S) -> Result<(), Stop>
 }
 
 // Puts a value of the two topmost cells in their place, if the divisor, which is the topmost, isn't 0.
+#[inline]
 fn divide<F: Fn(u64, u64) -> u64>(stack: &mut Stack, value: F) -> Result<(), Stop>
     requires callable { (a b : ℕ) → 0 < b → F.pre value a b }
     requires finds { 2 ≤ length stack.old }
@@ -106,6 +109,7 @@ fn divide<F: Fn(u64, u64) -> u64>(stack: &mut Stack, value: F) -> Result<(), Sto
 }
 
 // Does an instruction that only changes the stack.
+#[inline]
 fn change(op: Op, base: u32, stack: &mut Stack) -> Result<(), NoMemory>
     requires silent { IsTrue (is_silent op) }
     requires finds { needs op ≤ length stack.old }
@@ -123,6 +127,7 @@ fn change(op: Op, base: u32, stack: &mut Stack) -> Result<(), NoMemory>
 }
 
 // Does an instruction that needs no more room on the stack.
+#[inline]
 fn rework(op: Op, stack: &mut Stack)
     requires silent { IsTrue (needs_no_room op) }
     requires finds { needs op ≤ length stack.old }
