@@ -1,0 +1,4 @@
+pub mod Addresses
+pub mod Insertions
+pub mod Passing
+pub mod Placing
