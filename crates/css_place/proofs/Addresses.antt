@@ -13,10 +13,12 @@ use Rattle.css_place.proofs.Insertions.{All-inserted, All-removed, All-middle, A
 pub in_or_not : (address : ℕ) (s : Stretch) → IsIn address s ⊎ ¬ IsIn address s
 in_or_not address s =
     elim (cases_lt address s.start) [
-      inl low ↦ inr (λ within. let from : s.start ≤ address = within.from in omega arith)
-    | inr from ↦ elim (cases_lt address (end_of s)) [
-        inl below ↦ inl (record { from = from; below = below })
-      | inr high ↦ inr (λ within. let below : address < end_of s = within.below in omega arith) ] ]
+      | inl low ↦ inr (λ within. let from : s.start ≤ address = within.from in omega arith)
+      | inr from ↦ elim (cases_lt address (end_of s)) [
+        | inl below ↦ inl (record { from = from; below = below })
+        | inr high ↦ inr (λ within. let below : address < end_of s = within.below in omega arith)
+      ]
+    ]
 
 -- whether an address is in none of some stretches
 pub in_none_or_not : (address : ℕ) (out : List Stretch)
@@ -25,19 +27,23 @@ in_none_or_not address [] = inl (All-nil (λ s. ¬ IsIn address s))
 in_none_or_not address (s ∷ out) =
     let Outside : Stretch → Type 0 = λ s. ¬ IsIn address s in
     elim (in_or_not address s) [
-      inl within ↦ inr (λ each. All-head Outside s out each within)
-    | inr outside ↦ elim (in_none_or_not address out) [
-        inl rest ↦ inl (All-cons Outside s out outside rest)
-      | inr rest ↦ inr (λ each. rest (All-tail Outside s out each)) ] ]
+      | inl within ↦ inr (λ each. All-head Outside s out each within)
+      | inr outside ↦ elim (in_none_or_not address out) [
+        | inl rest ↦ inl (All-cons Outside s out outside rest)
+        | inr rest ↦ inr (λ each. rest (All-tail Outside s out each))
+      ]
+    ]
 
 -- whether an address is free
 pub free_or_not : (store : Store) (address : ℕ) → IsFree store address ⊎ ¬ IsFree store address
 free_or_not store address =
     elim (cases_lt address store.size) [
-      inl inside ↦ elim (in_none_or_not address store.out) [
-        inl unplaced ↦ inl (record { inside = inside; unplaced = unplaced })
-      | inr placed ↦ inr (λ free. placed free.unplaced) ]
-    | inr high ↦ inr (λ free. let inside : address < store.size = free.inside in omega arith) ]
+      | inl inside ↦ elim (in_none_or_not address store.out) [
+        | inl unplaced ↦ inl (record { inside = inside; unplaced = unplaced })
+        | inr placed ↦ inr (λ free. placed free.unplaced)
+      ]
+      | inr high ↦ inr (λ free. let inside : address < store.size = free.inside in omega arith)
+    ]
 
 -- where so many addresses in a row are free, a hole that begins there or below holds as many
 pub hole_below : (store : Store) (bytes start : ℕ) → HasRoom store start bytes
@@ -46,17 +52,23 @@ hole_below store bytes zero room =
     (0, record { front = λ before next. absurd (omega arith); room = room }, omega arith)
 hole_below store bytes (suc start) room =
     elim (free_or_not store start) [
-      inl free ↦
-        let wider : HasRoom store start bytes = λ address from below.
+      | inl free ↦
+          let wider : HasRoom store start bytes = λ address from below.
           elim (cases_lt start address) [
-            inl later ↦ room address (omega arith) (omega arith)
-          | inr same ↦ subst (IsFree store) (omega arith) free ] in
-        let hole = hole_below store bytes start wider in
-        (hole.0, hole.1, omega arith)
-    | inr taken ↦
-        (suc start, record {
+            | inl later ↦ room address (omega arith) (omega arith)
+            | inr same ↦ subst (IsFree store) (omega arith) free
+          ] in
+          let hole = hole_below store bytes start wider in
+          (hole.0, hole.1, omega arith)
+      | inr taken ↦ (
+        suc start,
+        record {
           front = λ before next free. taken (subst (IsFree store) (omega arith) free);
-          room = room }, omega arith) ]
+          room = room;
+        },
+        omega arith,
+      )
+    ]
 
 pub first_fit_lowest : (store : Store) (bytes start other : ℕ)
     → IsFirstFit store bytes start → HasRoom store other bytes → start ≤ other
@@ -69,8 +81,9 @@ pub full_no_room : (store : Store) (bytes start : ℕ)
     → IsFull store bytes → length store.out < 96 → HasRoom store start bytes → ⊥
 full_no_room store bytes start full few room =
     elim full [
-      inl many ↦ omega arith
-    | inr none ↦ let hole = hole_below store bytes start room in none hole.0 hole.1 ]
+      | inl many ↦ omega arith
+      | inr none ↦ let hole = hole_below store bytes start room in none hole.0 hole.1
+    ]
 
 -- an address is free after a place is added exactly where it was and the place hasn't got it
 pub free_before : (old new : Store) (s : Stretch) → Adds old new s
@@ -79,11 +92,13 @@ free_before old new s adds address free =
     let Outside : Stretch → Type 0 = λ s. ¬ IsIn address s in
     let before = adds.out.0 in
     let after = adds.out.1 in
-    let each = subst (All Outside) adds.out.3 free.unplaced in
-    (record {
-      inside = subst (λ size. address < size) adds.size free.inside;
-      unplaced = subst (All Outside) (sym adds.out.2) (All-removed Outside before after s each) }
-    , All-middle Outside before after s each)
+    let each = subst (All Outside) adds.out.3 free.unplaced in (
+      record {
+        inside = subst (λ size. address < size) adds.size free.inside;
+        unplaced = subst (All Outside) (sym adds.out.2) (All-removed Outside before after s each);
+      },
+      All-middle Outside before after s each,
+    )
 
 pub free_after : (old new : Store) (s : Stretch) → Adds old new s
     → (address : ℕ) → IsFree old address × ¬ IsIn address s → IsFree new address
@@ -94,7 +109,8 @@ free_after old new s adds address (free, outside) =
     let each = subst (All Outside) adds.out.2 free.unplaced in
     record {
       inside = subst (λ size. address < size) (sym adds.size) free.inside;
-      unplaced = subst (All Outside) (sym adds.out.3) (All-inserted Outside before after s each outside) }
+      unplaced = subst (All Outside) (sym adds.out.3) (All-inserted Outside before after s each outside);
+    }
 
 -- an address of a place out is in no other place out, so it is free without that place
 pub free_without : (old new : Store) (s : Stretch) → IsPlaced old → Adds new old s
@@ -106,28 +122,30 @@ free_without old new s placed adds address within =
     let after = adds.out.1 in
     let pairs = subst (AllPairs EndsBefore) adds.out.3 placed.disjoint in
     let lower = All-weaker (λ t. EndsBefore t s) Outside
-      (λ t ends inside. let below : address < end_of t = inside.below in
-        let from : s.start ≤ address = within.from in omega arith)
-      before (AllPairs-before EndsBefore before after s pairs) in
+    (λ t ends inside. let below : address < end_of t = inside.below in
+    let from : s.start ≤ address = within.from in omega arith)
+    before (AllPairs-before EndsBefore before after s pairs) in
     let higher = All-weaker (EndsBefore s) Outside
-      (λ t starts inside. let from : t.start ≤ address = inside.from in
-        let below : address < end_of s = within.below in omega arith)
-      after (AllPairs-after EndsBefore before after s pairs) in
+    (λ t starts inside. let from : t.start ≤ address = inside.from in
+    let below : address < end_of s = within.below in omega arith)
+    after (AllPairs-after EndsBefore before after s pairs) in
     let Inside : Stretch → Type 0 = λ s. end_of s ≤ old.size in
     let ends = All-middle Inside before after s (subst (All Inside) adds.out.3 placed.inside) in
     let below : address < end_of s = within.below in
     let same : old.size ≡ new.size = adds.size in
     record {
       inside = omega arith;
-      unplaced = subst (All Outside) (sym adds.out.2) (All-append Outside before after lower higher) }
+      unplaced = subst (All Outside) (sym adds.out.2) (All-append Outside before after lower higher);
+    }
 
 -- after a release an address is free exactly where it was, or the place had it
 pub free_released : (old new : Store) (s : Stretch) → IsPlaced old → Adds new old s
     → (address : ℕ) → IsFree new address → IsFree old address ⊎ IsIn address s
 free_released old new s placed adds address free =
     elim (in_or_not address s) [
-      inl within ↦ inr within
-    | inr outside ↦ inl (free_after new old s adds address (free, outside)) ]
+      | inl within ↦ inr within
+      | inr outside ↦ inl (free_after new old s adds address (free, outside))
+    ]
 
 pub released_free : (old new : Store) (s : Stretch) → IsPlaced old → Adds new old s
     → (address : ℕ) → IsFree old address ⊎ IsIn address s → IsFree new address
@@ -146,8 +164,8 @@ pub room_released : (old new : Store) (s : Stretch) (bytes : ℕ) → IsPlaced o
     → bytes ≤ s.length → IsFull new bytes → ⊥
 room_released old new s bytes placed adds holds full =
     full_no_room new bytes s.start full (fewer old new s placed adds)
-      (λ address from below. free_without old new s placed adds address
-        (record { from = from; below = omega arith }))
+    (λ address from below. free_without old new s placed adds address
+    (record { from = from; below = omega arith }))
 
 -- an earlier place out ends before a later one starts
 in_order : (out : List Stretch) (s t : Stretch) (i j : ℕ) → AllPairs (λ s t. end_of s ≤ t.start) out
@@ -166,9 +184,17 @@ one_place store s t address placed (i, s_out, s_is) (j, t_out, t_is) in_s in_t =
     let t_from : t.start ≤ address = in_t.from in
     let t_below : address < end_of t = in_t.below in
     elim (cases_lt i j) [
-      inl earlier ↦ let ends = in_order store.out s t i j placed.disjoint earlier t_out s_is t_is in absurd (omega arith)
-    | inr above ↦ elim (cases_lt j i) [
-        inl earlier ↦ let ends = in_order store.out t s j i placed.disjoint earlier s_out t_is s_is in absurd (omega arith)
-      | inr below ↦
-        let same : i ≡ j = omega arith in
-        sym s_is ∙ ap (λ k. get_or store.out k s) same ∙ get_or_default store.out j s t t_out ∙ t_is ] ]
+      | inl earlier ↦ let ends = in_order store.out s t i j placed.disjoint earlier t_out s_is t_is in absurd (omega arith)
+      | inr above ↦ elim (cases_lt j i) [
+        | inl earlier ↦ let ends = in_order store.out t s j i placed.disjoint earlier s_out t_is s_is in absurd (omega arith)
+        | inr below ↦
+            let same : i ≡ j = omega arith in
+            sym s_is ∙ ap (λ k. get_or store.out k s) same ∙ get_or_default store.out j s t t_out ∙ t_is
+      ]
+    ]
+
+-- where a hole holds a length and fewer than 96 places are out, there is room
+pub fit_not_full : (store : Store) (bytes start : ℕ) → IsFirstFit store bytes start → length store.out < 96
+    → IsFull store bytes → ⊥
+fit_not_full store bytes start fit few (inl many) = omega arith
+fit_not_full store bytes start fit few (inr none) = none start fit.holds

@@ -37,8 +37,8 @@ module _ {X : Type 0} where
       let rest = AllPairs-head R x (xs ++ ys) pairs in
       let Before : X → Type 0 = λ x. R x y in
       AllPairs-cons R x (xs ++ y ∷ ys)
-        (All-inserted (R x) xs ys y rest (All-head Before x xs before))
-        (AllPairs-inserted R xs ys y (AllPairs-tail R x (xs ++ ys) pairs) (All-tail Before x xs before) after)
+      (All-inserted (R x) xs ys y rest (All-head Before x xs before))
+      (AllPairs-inserted R xs ys y (AllPairs-tail R x (xs ++ ys) pairs) (All-tail Before x xs before) after)
 
   -- each pair round an element stands in order with it
   pub AllPairs-before : (R : X → X → Type 0) (xs ys : List X) (y : X)
@@ -47,8 +47,8 @@ module _ {X : Type 0} where
   AllPairs-before R (x ∷ xs) ys y pairs =
       let Before : X → Type 0 = λ x. R x y in
       All-cons Before x xs
-        (All-middle (R x) xs ys y (AllPairs-head R x (xs ++ y ∷ ys) pairs))
-        (AllPairs-before R xs ys y (AllPairs-tail R x (xs ++ y ∷ ys) pairs))
+      (All-middle (R x) xs ys y (AllPairs-head R x (xs ++ y ∷ ys) pairs))
+      (AllPairs-before R xs ys y (AllPairs-tail R x (xs ++ y ∷ ys) pairs))
 
   pub AllPairs-after : (R : X → X → Type 0) (xs ys : List X) (y : X)
       → AllPairs R (xs ++ y ∷ ys) → All (R y) ys

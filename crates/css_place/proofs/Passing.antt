@@ -1,7 +1,7 @@
 -- The walk over the gaps between the places out.
 use Rattle.std.proofs.Common.{suc, ◌≡◌, ◌<◌, ◌≤◌, ◌+◌, ◌-◌, ◌%◌, ℕ, List, [], ◌∷◌, ◌++◌, length, take, drop, arith, All, AllPairs, subst, sym, ap, ◌∙◌, ◌⊎◌, inl, inr, get_or}
 use Rattle.std.proofs.lemmas.Bool.{cases_lt}
-use Rattle.std.proofs.lemmas.List.{take-append-drop, drop_all, take_all, take_more}
+use Rattle.std.proofs.lemmas.List.{get_or_default, take-append-drop, drop_all, take_more}
 use Rattle.std.proofs.lemmas.List.Elements.{All-nil, All-cons, All-head, All-tail, All-append, All-weaker, All-get_or}
 use Rattle.std.proofs.Math.Seq.{drop-cons}
 use Rattle.css_place.specs.declared.stretch.Stretch.{Stretch}
@@ -33,7 +33,8 @@ passed_none store bytes = record {
   inside = omega arith;
   aligned = omega arith;
   front = λ before next. absurd (omega arith);
-  lowest = λ other room. omega arith }
+  lowest = λ other room. omega arith;
+}
 
 -- the list round a place out
 pub round : (out : List Stretch) (index : ℕ) (s : Stretch) → index < length out → get_or out index s ≡ s
@@ -48,7 +49,7 @@ pub gap_ends : (store : Store) (bytes index start : ℕ) (s : Stretch) → IsPas
 gap_ends store bytes index start s passed below is =
     let Reached : Stretch → Type 0 = λ s. start ≤ s.start in
     let rest : drop index store.out ≡ s ∷ drop (suc index) store.out =
-      drop-cons store.out index s below ∙ ap (λ x. x ∷ drop (suc index) store.out) is in
+    drop-cons store.out index s below ∙ ap (λ x. x ∷ drop (suc index) store.out) is in
     All-head Reached s (drop (suc index) store.out) (subst (All Reached) rest passed.after)
 
 -- what holds of each place out holds of that one
@@ -64,16 +65,18 @@ past store bytes index start s positive placed passed below is small other room 
     let low : start ≤ other = passed.lowest other room in
     let some : 0 < s.length = (of_place IsAligned store.out index s below is placed.aligned).positive in
     elim (cases_lt other (end_of s)) [
-      inr later ↦ later
-    | inl earlier ↦ elim (cases_lt other s.start) [
-        inl lower ↦
-          let free = room s.start (omega arith) (omega arith) in
-          absurd (of_place (λ t. ¬ IsIn s.start t) store.out index s below is free.unplaced
+      | inr later ↦ later
+      | inl earlier ↦ elim (cases_lt other s.start) [
+        | inl lower ↦
+            let free = room s.start (omega arith) (omega arith) in
+            absurd (of_place (λ t. ¬ IsIn s.start t) store.out index s below is free.unplaced
             (record { from = omega arith; below = omega arith }))
-      | inr from ↦
-          let free = room other (omega arith) (omega arith) in
-          absurd (of_place (λ t. ¬ IsIn other t) store.out index s below is free.unplaced
-            (record { from = from; below = earlier })) ] ]
+        | inr from ↦
+            let free = room other (omega arith) (omega arith) in
+            absurd (of_place (λ t. ¬ IsIn other t) store.out index s below is free.unplaced
+            (record { from = from; below = earlier }))
+      ]
+    ]
 
 -- a sum of two multiples of 128 is one
 sum_aligned : (a b : ℕ) → a % 128 ≡ 0 → b % 128 ≡ 0 → (a + b) % 128 ≡ 0
@@ -89,22 +92,23 @@ passed_more store bytes index start s positive placed passed below is small =
     let pairs = subst (AllPairs EndsBefore) (round store.out index s below is) placed.disjoint in
     let Passed : Stretch → Type 0 = λ t. end_of t ≤ end_of s in
     let lower = All-weaker (λ t. EndsBefore t s) Passed (λ t ends. omega arith) (take index store.out)
-      (AllPairs-before EndsBefore (take index store.out) (drop (suc index) store.out) s pairs) in
+    (AllPairs-before EndsBefore (take index store.out) (drop (suc index) store.out) s pairs) in
     let own : end_of s ≤ end_of s = omega arith in
     let one = All-append Passed (take index store.out) (s ∷ []) lower (All-cons Passed s [] own (All-nil Passed)) in
     let front : take (index + 1) store.out ≡ take index store.out ++ s ∷ [] =
-      take_more store.out index s below ∙ ap (λ x. take index store.out ++ x ∷ []) is in
+    take_more store.out index s below ∙ ap (λ x. take index store.out ++ x ∷ []) is in
     let back : suc index ≡ index + 1 = omega arith in
     record {
       number = omega arith;
       before = subst (All Passed) (sym front) one;
       after = subst (λ n. All (EndsBefore s) (drop n store.out)) back
-        (AllPairs-after EndsBefore (take index store.out) (drop (suc index) store.out) s pairs);
+          (AllPairs-after EndsBefore (take index store.out) (drop (suc index) store.out) s pairs);
       inside = of_place (λ t. end_of t ≤ store.size) store.out index s below is placed.inside;
       aligned = sum_aligned s.start s.length aligned.start aligned.length;
       front = λ before next free. of_place (λ t. ¬ IsIn before t) store.out index s below is free.unplaced
-        (record { from = omega arith; below = omega arith });
-      lowest = past store bytes index start s positive placed passed below is small }
+          (record { from = omega arith; below = omega arith });
+      lowest = past store bytes index start s positive placed passed below is small;
+    }
 
 -- the addresses of a gap are free
 gap_room : (store : Store) (bytes index start : ℕ) → IsPassed store bytes index start
@@ -113,15 +117,16 @@ gap_room : (store : Store) (bytes index start : ℕ) → IsPassed store bytes in
 gap_room store bytes index start passed after inside address from below =
     let Outside : Stretch → Type 0 = λ s. ¬ IsIn address s in
     let lower = All-weaker (λ s. end_of s ≤ start) Outside
-      (λ s ends within. let under : address < end_of s = within.below in omega arith)
-      (take index store.out) passed.before in
+    (λ s ends within. let under : address < end_of s = within.below in omega arith)
+    (take index store.out) passed.before in
     let higher = All-weaker (λ s. start + bytes ≤ s.start) Outside
-      (λ s starts within. let above : s.start ≤ address = within.from in omega arith)
-      (drop index store.out) after in
+    (λ s starts within. let above : s.start ≤ address = within.from in omega arith)
+    (drop index store.out) after in
     record {
       inside = omega arith;
       unplaced = subst (All Outside) (take-append-drop index store.out)
-        (All-append Outside (take index store.out) (drop index store.out) lower higher) }
+          (All-append Outside (take index store.out) (drop index store.out) lower higher);
+    }
 
 -- the gap that ends with a place is the first that has so many bytes
 pub gap_fits : (store : Store) (bytes : ℕ) (gap : Gap) → IsPassed store bytes gap.index gap.start
@@ -136,8 +141,11 @@ gap_fits store bytes gap passed after inside = record {
   first = record {
     holds = record {
       front = passed.front;
-      room = gap_room store bytes gap.index gap.start passed after inside };
-    first = λ other holds. passed.lowest other holds.room } }
+      room = gap_room store bytes gap.index gap.start passed after inside;
+    };
+    first = λ other holds. passed.lowest other holds.room;
+  };
+}
 
 -- the first gap with room ends with a place
 pub fits_before : (store : Store) (bytes : ℕ) (gap : Gap) (s : Stretch) → IsPlaced store
@@ -148,9 +156,9 @@ fits_before store bytes gap s placed passed below is room =
     let pairs = subst (AllPairs EndsBefore) (round store.out gap.index s below is) placed.disjoint in
     let later = AllPairs-after EndsBefore (take gap.index store.out) (drop (suc gap.index) store.out) s pairs in
     let all = All-cons Beyond s (drop (suc gap.index) store.out) room
-      (All-weaker (EndsBefore s) Beyond (λ t starts. omega arith) (drop (suc gap.index) store.out) later) in
+    (All-weaker (EndsBefore s) Beyond (λ t starts. omega arith) (drop (suc gap.index) store.out) later) in
     let rest : drop gap.index store.out ≡ s ∷ drop (suc gap.index) store.out =
-      drop-cons store.out gap.index s below ∙ ap (λ x. x ∷ drop (suc gap.index) store.out) is in
+    drop-cons store.out gap.index s below ∙ ap (λ x. x ∷ drop (suc gap.index) store.out) is in
     let end : end_of s ≤ store.size = of_place (λ t. end_of t ≤ store.size) store.out gap.index s below is placed.inside in
     gap_fits store bytes gap passed (subst (All Beyond) (sym rest) all) (omega arith)
 
@@ -170,3 +178,8 @@ fits_nowhere store bytes index start positive passed small other room =
     let last = room (other + (bytes - 1)) (omega arith) (omega arith) in
     let inside : other + (bytes - 1) < store.size = last.inside in
     omega arith
+
+-- a read of the place with that number
+pub read : (out : List Stretch) (index : ℕ) (d : Stretch) → index < length out
+    → get_or out index (get_or out index d) ≡ get_or out index d
+read out index d below = get_or_default out index (get_or out index d) d below

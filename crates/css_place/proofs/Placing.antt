@@ -27,20 +27,22 @@ placed_more store s gap placed first at whole positive few =
     record {
       size = placed.size;
       aligned = All-inserted IsAligned before after s (subst (All IsAligned) whole_list placed.aligned)
-        (record { start = rw at first.aligned; length = whole; positive = positive });
+          (record { start = rw at first.aligned; length = whole; positive = positive });
       disjoint = AllPairs-inserted EndsBefore before after s (subst (AllPairs EndsBefore) whole_list placed.disjoint)
-        (All-weaker (λ t. end_of t ≤ gap.start) (λ t. end_of t ≤ s.start) (λ t ends. omega arith) before first.before)
-        (All-weaker (λ t. gap.start + s.length ≤ t.start) (EndsBefore s) (λ t starts. omega arith) after first.after);
+          (All-weaker (λ t. end_of t ≤ gap.start) (λ t. end_of t ≤ s.start) (λ t ends. omega arith) before first.before)
+          (All-weaker (λ t. gap.start + s.length ≤ t.start) (EndsBefore s) (λ t starts. omega arith) after first.after);
       inside = All-inserted Inside before after s (subst (All Inside) whole_list placed.inside) own;
       few = let number : gap.index ≤ length store.out = first.number in
-        omega (arith, length-insert store.out gap.index s number) }
+          omega (arith, length-insert store.out gap.index s number);
+    }
 
 -- an insertion adds the place
 pub insert_adds : (store : Store) (index : ℕ) (s : Stretch)
     → Adds store (record { size = store.size; out = insert store.out index s }) s
 insert_adds store index s = record {
   size = refl;
-  out = (take index store.out, drop index store.out, sym (take-append-drop index store.out), refl) }
+  out = (take index store.out, drop index store.out, sym (take-append-drop index store.out), refl);
+}
 
 -- what holds of each element holds of each that is left
 All-remove : {X : Type 0} (P : X → Type 0) (xs : List X) (i : ℕ) → All P xs → All P (remove xs i)
@@ -56,7 +58,8 @@ placed_less store index placed below = record {
   disjoint = all_pairs_remove EndsBefore store.out index below placed.disjoint;
   inside = All-remove (λ t. end_of t ≤ store.size) store.out index placed.inside;
   few = let most : length store.out ≤ 96 = placed.few in
-    omega (arith, length-remove store.out index below) }
+      omega (arith, length-remove store.out index below);
+}
 
 -- a removal takes the place out
 pub remove_removes : (store : Store) (index : ℕ) (s : Stretch) → index < length store.out
@@ -64,4 +67,5 @@ pub remove_removes : (store : Store) (index : ℕ) (s : Stretch) → index < len
     → Adds (record { size = store.size; out = remove store.out index }) store s
 remove_removes store index s below is = record {
   size = refl;
-  out = (take index store.out, drop (suc index) store.out, refl, round store.out index s below is) }
+  out = (take index store.out, drop (suc index) store.out, refl, round store.out index s below is);
+}

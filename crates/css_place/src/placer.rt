@@ -6,7 +6,7 @@ ghost use Rattle.css_place.specs.Changes.{Adds, Removes};
 
 use crate::gaps::first_gap;
 use crate::place::Place;
-use crate::stretch::Stretch;
+use crate::stretch::{Stretch, number_of};
 use arrayvec::ArrayVec;
 use std::marker::Model;
 
@@ -89,13 +89,7 @@ impl Placer {
         requires { Contains self.old.out place }
         ensures { Removes self.old self.new place }
     {
-        let stretch = place.stretch();
-        let index = self
-            .out
-            .as_slice()
-            .iter()
-            .position(|out| *out == stretch)
-            .unwrap();
+        let index = number_of(self.out.as_slice(), place.stretch());
         self.out.remove(index);
     }
 }
