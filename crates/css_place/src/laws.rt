@@ -1,5 +1,5 @@
 //! What holds of lengths, holes and changes: each function's clause is a law.
-ghost use Rattle.std.specs.Prelude.{◌≡◌, ◌<◌, ◌≤◌, ◌%◌, ◌↔◌, ◌⊎◌, ℕ, length, Contains};
+ghost use Rattle.std.specs.Prelude.{◌≡◌, ◌≢◌, ◌<◌, ◌≤◌, ◌%◌, ◌↔◌, ◌⊎◌, ℕ, length, Contains};
 ghost use Rattle.css_place.specs.declared.stretch.Stretch.{Stretch};
 ghost use Rattle.css_place.specs.Places.{Store, rounded, IsPlaced};
 ghost use Rattle.css_place.specs.Holes.{IsIn, IsFree, HasRoom, IsFirstFit, IsFull};
@@ -28,6 +28,18 @@ pub fn first_fit_is_lowest()
 pub fn full_has_no_room()
     ensures { (store : Store) (bytes start : ℕ)
         → IsFull store bytes → length store.out < 96 → HasRoom store start bytes → ⊥ }
+{}
+
+/// After a place is added, those out are the old ones and this one.
+pub fn place_joins_those_out()
+    ensures { (old new : Store) (s : Stretch) → Adds old new s
+        → (t : Stretch) → Contains new.out t ↔ (Contains old.out t ⊎ (t ≡ s)) }
+{}
+
+/// After a release, those out are the old ones but this one. So a place that is added wasn't out before.
+pub fn release_leaves_the_others()
+    ensures { (old new : Store) (s : Stretch) → IsPlaced old → Removes old new s
+        → (t : Stretch) → Contains new.out t ↔ (Contains old.out t × t ≢ s) }
 {}
 
 /// A place takes its own addresses and no others.
