@@ -1,4 +1,5 @@
 pub mod Addresses
+pub mod Holding
 pub mod Insertions
 pub mod Others
 pub mod Passing
