@@ -1,5 +1,5 @@
 //! Places of a local store.
-ghost use Rattle.std.specs.Prelude.{◌≡◌};
+ghost use Rattle.std.specs.Prelude.{◌≡◌, ◌<◌, ◌%◌};
 ghost use Rattle.css_place.specs.Places.{IsAligned};
 
 use crate::stretch::Stretch;
@@ -36,14 +36,17 @@ impl Place {
 
     /// The first address, a multiple of 128.
     pub fn start(&self) -> u32
-        ensures { result ≡ self.now.start }
+        ensures value { result ≡ self.now.start }
+        ensures aligned { result % 128 ≡ 0 }
     {
         self.stretch.start
     }
 
     /// How many bytes it has, a positive multiple of 128.
     pub fn length(&self) -> u32
-        ensures { result ≡ self.now.length }
+        ensures value { result ≡ self.now.length }
+        ensures aligned { result % 128 ≡ 0 }
+        ensures positive { 0 < result }
     {
         self.stretch.length
     }
