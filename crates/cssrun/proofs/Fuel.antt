@@ -1,5 +1,5 @@
 -- With enough fuel a program has an ending, and only one.
-use Rattle.std.proofs.Common.{◌≡◌, ℕ, ℤ, ◌+◌, Some, refl, sym, ap, ◌∙◌, subst, arith}
+use Rattle.std.proofs.Common.{◌≡◌, ℕ, ℤ, ◌+◌, Some, refl, sym, ap, ◌∙◌, arith}
 use Rattle.css_base.specs.declared.ending.Ending.{Ending}
 use Rattle.css_semantics.specs.Dialogue.{World, Tape, Outcome, Goes, Stops, Stopped, Tired}
 use Rattle.css_semantics.specs.Flat.{flat}

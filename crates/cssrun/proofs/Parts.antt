@@ -1,5 +1,5 @@
 -- Main's run in parts, one behind another.
-use Rattle.std.proofs.Common.{◌≡◌, ℕ, ℤ, ◌+◌, ◌≤◌, ◌⊎◌, inl, inr, List, [], ◌++◌, length, Option, Some, refl, sym, ap, ◌∙◌, subst, append_assoc, arith}
+use Rattle.std.proofs.Common.{◌≡◌, ℕ, ℤ, ◌+◌, ◌≤◌, inl, inr, List, [], ◌++◌, length, Option, Some, refl, sym, ◌∙◌, subst, append_assoc, arith}
 use Rattle.std.proofs.lemmas.List.{append-nil}
 use Rattle.css_base.specs.declared.ending.Ending.{Ending}
 use Rattle.css_io.proofs.Told.{Appends-more}

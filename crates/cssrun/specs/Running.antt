@@ -1,5 +1,5 @@
 -- A run of main in the flat memory, on its way.
-use Rattle.std.specs.Prelude.{◌≡◌, ◌≤◌, ℕ, ℤ, List, [], ◌++◌, Some}
+use Rattle.std.specs.Prelude.{◌≡◌, ◌≤◌, ℕ, ℤ, List, ◌++◌, Some}
 use Rattle.css_base.specs.declared.ending.Ending.{Ending}
 use Rattle.css_semantics.specs.Dialogue.{Tape, Outcome, Goes, Stops, tape_of, output}
 use Rattle.css_semantics.specs.Worlds.{state_after}

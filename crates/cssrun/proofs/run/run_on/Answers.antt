@@ -1,4 +1,4 @@
-use Rattle.std.proofs.Common.{◌+◌, refl, arith}
+use Rattle.std.proofs.Common.{refl, arith}
 use Rattle.css_semantics.specs.Units.{with_units}
 use Rattle.css_vm.specs.Code.{routine}
 use Rattle.cssrun.proofs.Parts.{goes_nowhere, goes_further, goes_to_end, rank_fits, rank_falls}
