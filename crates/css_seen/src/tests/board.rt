@@ -7,11 +7,8 @@ use std::collections::LinkedList;
 use std::marker::Model;
 use std::sync::Arc;
 
-#[derive(Clone, Copy)]
-pub struct Claim {
-    pub by: u64,
-    pub cell: u64,
-}
+// The number of the pass, and the cell.
+pub type Claim = (u64, u64);
 
 #[derive(Drop)]
 pub struct Board {
@@ -24,9 +21,8 @@ pub struct Board {
 // Contracts see the plan and the claims.
 impl Model for Board {
     ghost use Rattle.std.specs.Prelude.{◌<◌, ◌^◌, ℕ, List, vec_len};
-    ghost use Rattle.css_seen.specs.declared.tests.board.Claim.{Claim};
 
-    ghost Value = { List ℕ × List Claim };
+    ghost Value = { List ℕ × List (ℕ × ℕ) };
 
     ghost view = { λ b. (b.plan.items, b.log.items) };
 
@@ -50,14 +46,14 @@ impl Board {
 
     // It stays as it was where there is no memory.
     pub fn claim(&mut self, by: u64, cell: u64) -> Result<(), AllocError>
-        ensures ok { OnOk result (self.new.1 ≡ self.old.1 ++ record { by = by; cell = cell } ∷ []) }
+        ensures ok { OnOk result (self.new.1 ≡ self.old.1 ++ (by, cell) ∷ []) }
         ensures err { OnErr result (self.new.1 ≡ self.old.1) }
         ensures plan { self.new.0 ≡ self.old.0 }
     {
         if self.log.len() >= (1 << 62) - 1 {
             return Err(AllocError);
         }
-        self.log.push(Claim { by, cell })?;
+        self.log.push((by, cell))?;
         Ok(())
     }
 }
@@ -70,7 +66,7 @@ impl Told for Board {
 
     ghost history = { λ b. b.1 };
 
-    ghost maker = { λ e. e.by };
+    ghost maker = { λ e. e.0 };
 
     ghost fixed = { λ b. b.0 };
 

@@ -1,15 +1,12 @@
 // A value with an invariant of its own: amounts that were added, up to a limit.
-ghost use Rattle.std.specs.Prelude.{◌≡◌, ◌∷◌, ◌++◌, ◌<◌, ◌^◌, OnOk, OnErr, [], vec_len};
+ghost use Rattle.std.specs.Prelude.{◌≡◌, ◌∷◌, ◌++◌, ◌<◌, ◌^◌, ℕ, OnOk, OnErr, [], vec_len};
 ghost use Rattle.std.specs.List.{sum_by};
 
 use crate::Told;
 use std::alloc::{AllocError, Global};
 
-#[derive(Clone, Copy)]
-pub struct Added {
-    pub by: u64,
-    pub amount: u64,
-}
+// The number of the pass, and the amount.
+pub type Added = (u64, u64);
 
 #[derive(Drop)]
 pub struct Tally {
@@ -17,7 +14,7 @@ pub struct Tally {
     // It never changes.
     pub limit: u64,
     pub log: Vec<Added>,
-    ghost summed: { total ≡ sum_by (λ e. e.amount) log.items },
+    ghost summed: { total ≡ sum_by (λ (e : ℕ × ℕ). e.1) log.items },
     ghost short: { vec_len log < 2 ^ 62 },
 }
 
@@ -35,7 +32,7 @@ impl Tally {
 
     // It stays as it was where there is no memory, or the total would pass the limit.
     pub fn add(&mut self, by: u64, amount: u64) -> Result<(), AllocError>
-        ensures ok { OnOk result (self.new.log.items ≡ self.old.log.items ++ record { by = by; amount = amount } ∷ []) }
+        ensures ok { OnOk result (self.new.log.items ≡ self.old.log.items ++ (by, amount) ∷ []) }
         ensures err { OnErr result (self.new.log.items ≡ self.old.log.items) }
         ensures limit { self.new.limit ≡ self.old.limit }
     {
@@ -45,7 +42,7 @@ impl Tally {
         {
             return Err(AllocError);
         }
-        self.log.push(Added { by, amount })?;
+        self.log.push((by, amount))?;
         self.total += amount;
         Ok(())
     }
@@ -58,7 +55,7 @@ impl Told for Tally {
 
     ghost history = { λ t. t.log.items };
 
-    ghost maker = { λ e. e.by };
+    ghost maker = { λ e. e.0 };
 
     ghost fixed = { λ t. t.limit };
 
