@@ -1,5 +1,5 @@
 -- How a command line is spelled.
-use Rattle.std.specs.Prelude.{◌≡◌, ◌≢◌, ◌⊎◌, ℕ, List, [], ◌∷◌, ◌++◌, All, Option, Some, None, codes, flat_map}
+use Rattle.std.specs.Prelude.{◌≡◌, ◌≢◌, ◌⊎◌, ℕ, Bool, true, false, List, [], ◌∷◌, ◌++◌, All, Option, Some, None, codes, flat_map}
 use Rattle.css_words.specs.declared.options.OptionName.{OptionName}
 use Rattle.css_words.specs.declared.table.OptionKind.{OptionKind}
 use Rattle.css_words.specs.declared.table.OptionKind.TheVariants.{Flag}
@@ -19,13 +19,9 @@ spelling (Apart option value) = (codes "--" ++ option_name option) ∷ value ∷
 spelling (Joined option value) = (codes "--" ++ (option_name option ++ (codes "=" ++ value))) ∷ []
 spelling (Operand word) = word ∷ []
 
-abbrev pub IsFlag : OptionKind → Type 0
-IsFlag Flag = Unit {0}
-IsFlag _ = ⊥
-
-abbrev pub TakesValue : OptionKind → Type 0
-TakesValue Flag = ⊥
-TakesValue _ = Unit {0}
+abbrev pub is_flag : OptionKind → Bool
+is_flag Flag = true
+is_flag _ = false
 
 -- The word doesn't begin with `-`.
 abbrev pub IsPlain : Text → Type 0
@@ -35,9 +31,9 @@ IsPlain (b ∷ bs) = b ≢ 45
 -- A flag has no value, and any other option has one; a value in the next word doesn't begin with `-`; and of the words
 -- that begin with `-`, only `-` alone is no option.
 abbrev pub IsItem : Item → Type 0
-IsItem (Raised option) = IsFlag (kind_of option)
-IsItem (Apart option value) = TakesValue (kind_of option) × IsPlain value
-IsItem (Joined option value) = TakesValue (kind_of option)
+IsItem (Raised option) = is_flag (kind_of option) ≡ true
+IsItem (Apart option value) = (is_flag (kind_of option) ≡ false) × IsPlain value
+IsItem (Joined option value) = is_flag (kind_of option) ≡ false
 IsItem (Operand word) = (word ≡ codes "-") ⊎ IsPlain word
 
 -- an option, and the value that it is given; a flag's is empty
@@ -71,8 +67,3 @@ pub record Says (words : List Text) (given : List Given) (operands : List Text) 
   pub spelled : words ≡ flat_map spelling items ++ tail_of behind
   pub given_are : given ≡ flat_map given_by items
   pub operands_are : operands ≡ flat_map operand_by items ++ behind_of behind
-
--- The words begin with this item's, and the rest follows.
-pub record BeginsWith (words : List Text) (item : Item) (rest : List Text) : Type 0 where
-  pub is_item : IsItem item
-  pub spelled : words ≡ spelling item ++ rest

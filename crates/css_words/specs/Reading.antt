@@ -74,6 +74,11 @@ number_in (Number least most default) None = default
 number_in (Number least most default) (Some text) = digits_value 10 text
 number_in _ value = 0
 
+-- the greatest number that an option of this kind has
+abbrev pub most_of : OptionKind → ℕ
+most_of (Number least most default) = most
+most_of _ = 0
+
 abbrev pub number_of : OptionName → List Given → ℕ
 number_of option given = number_in (kind_of option) (value_of option given)
 

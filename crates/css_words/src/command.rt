@@ -71,8 +71,10 @@ pub(crate) fn command_named(name: &str) -> Option<Command>
         ((command : Command) → command_name command ≢ name.now)
         (λ command. command_name command ≡ name.now) }
 {
-    Command::ALL
-        .iter()
-        .copied()
-        .find(|command| command.name() == name)
+    for command in Command::ALL {
+        if command.name() == name {
+            return Some(command);
+        }
+    }
+    None
 }

@@ -1,0 +1,4 @@
+pub mod Names
+pub mod Items
+pub mod Saying
+pub mod Parts
