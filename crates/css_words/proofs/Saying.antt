@@ -82,3 +82,7 @@ more_items [] i rest = ap (λ (ws : List Text). ws ++ rest) (sym (append-nil (sp
 more_items (j ∷ js) i rest =
     append_assoc (spelling j) (flat_map spelling js) (spelling i ++ rest)
     ∙ (ap (λ (ws : List Text). spelling j ++ ws) (more_items js i rest) ∙ sym (append_assoc (spelling j) (flat_map spelling (js ++ i ∷ [])) rest))
+
+pub flat_map_push : {X A : Type 0} (f : X → List A) (xs : List X) (x : X) → flat_map f (xs ++ x ∷ []) ≡ flat_map f xs ++ f x
+flat_map_push f [] x = append-nil (f x)
+flat_map_push f (y ∷ ys) x = ap (λ (l : List _). f y ++ l) (flat_map_push f ys x) ∙ sym (append_assoc (f y) (flat_map f ys) (f x))

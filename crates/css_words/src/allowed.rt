@@ -70,12 +70,10 @@ fn are_options_of(built: &Built<'_>, command: Command, given: &[Given<'_>]) -> b
 fn are_once(given: &[Given<'_>]) -> bool
     ensures { IsTrue result ↔ AreOnce (pairs given.now) }
 {
-    let mut rest = given;
-    while let Some((first, others)) = rest.split_first() {
-        if value_of(first.option, others).is_some() {
+    for i in 0..given.len() {
+        if value_of(given[i].option, &given[i + 1..]).is_some() {
             return false;
         }
-        rest = others;
     }
     true
 }
@@ -96,7 +94,8 @@ fn are_values(alloc: Global, given: &[Given<'_>]) -> Result<bool, NoMemory>
     ensures { IfOk result (λ yes. IsTrue yes ↔ All (λ g. IsValue (kind_of g.0) g.1) (pairs given.now)) }
 {
     for one in given {
-        if !is_value(alloc, one.option, one.value)? {
+        let fits = is_value(alloc, one.option, one.value)?;
+        if !fits {
             return Ok(false);
         }
     }
@@ -114,12 +113,19 @@ fn wants(command: Command, option: OptionName) -> bool
     }
 }
 
-/// Whether what a command wants is given.
+/// Whether an option is given, if a command wants it.
+fn is_there(command: Command, option: OptionName, given: &[Given<'_>]) -> bool
+    ensures { IsTrue result ↔ (Wants command option → IsSome (value_of option (pairs given.now))) }
+{
+    !wants(command, option) || value_of(option, given).is_some()
+}
+
+/// Whether each option that a command wants is given.
 fn has_wanted(command: Command, given: &[Given<'_>]) -> bool
     ensures { IsTrue result ↔ ((option : OptionName) → Wants command option → IsSome (value_of option (pairs given.now))) }
 {
     for option in OptionName::ALL {
-        if wants(command, option) && value_of(option, given).is_none() {
+        if !is_there(command, option, given) {
             return false;
         }
     }
@@ -146,11 +152,15 @@ pub(crate) fn is_allowed(
 ) -> Result<bool, NoMemory>
     ensures { IfOk result (λ yes. IsTrue yes ↔ IsAllowed built.now command operand.now (pairs given.now)) }
 {
-    let is_built = has_command(built.commands, command);
-    let are_options = are_options_of(built, command, given);
-    let are_once = are_once(given);
-    let has_wanted = has_wanted(command, given);
-    let is_operand = is_operand_of(alloc, command, operand)?;
-    let are_values = are_values(alloc, given)?;
-    Ok(is_built && are_options && are_once && has_wanted && is_operand && are_values)
+    if !has_command(built.commands, command) || !are_options_of(built, command, given) {
+        return Ok(false);
+    }
+    if !are_once(given) || !has_wanted(command, given) {
+        return Ok(false);
+    }
+    let fits = is_operand_of(alloc, command, operand)?;
+    if !fits {
+        return Ok(false);
+    }
+    are_values(alloc, given)
 }
