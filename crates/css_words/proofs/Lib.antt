@@ -5,3 +5,4 @@ pub mod Parts
 pub mod Pairs
 pub mod Numbers
 pub mod Ranges
+pub mod Readings

@@ -42,6 +42,6 @@ pub allowed_by_values : {E : Type 0} (built : Built) (command : Command) (operan
     → Contains built.commands.now command → All (λ g. IsOptionOf built command g.0) given → AreOnce given
     → ((option : OptionName) → Wants command option → IsSome (value_of option given)) → IsOperandOf command operand
     → IfOk r (λ yes. IsTrue yes ↔ All (λ g. IsValue (kind_of g.0) g.1) given) → IfOk r (λ yes. IsTrue yes ↔ IsAllowed built command operand given)
-allowed_by_values built command operand given (Ok yes) is belong once wanted of h =
+allowed_by_values built command operand given (Ok fits) is belong once wanted of h =
     (λ t. record { is_built = is; options = belong; once = once; values = h.0 t; wanted = wanted; of_command = of }, λ a. h.1 a.values)
 allowed_by_values built command operand given (Err e) is belong once wanted of h = h

@@ -1,7 +1,7 @@
 //! From words to a request.
-ghost use Rattle.std.specs.Prelude.{◌≡◌, ◌≤◌, All, IfOk, IsErrOf, string_bytes};
-ghost use Rattle.css_words.specs.Options.{kind_of};
-ghost use Rattle.css_words.specs.Parts.{pairs};
+ghost use Rattle.std.specs.Prelude.{◌≡◌, ◌≢◌, ◌≤◌, ◌∷◌, [], All, IfOk, IsErrOf, List, MatchOption, map};
+ghost use Rattle.css_words.specs.Options.{Text, kind_of};
+ghost use Rattle.css_words.specs.Parts.{pairs, texts};
 ghost use Rattle.css_words.specs.Reading.{AreRefused, HasBounds, IsOperandOf, IsValue, Reads, file_of, is_given, limits_of, most_of, name_of, number_of, program_number, request_of};
 
 use crate::allowed::{is_allowed, value_of};
@@ -112,6 +112,37 @@ fn make_request(alloc: Global, command: Command, operand: &str, given: &[Given<'
     })
 }
 
+/// The word of the command, and the words behind it.
+fn command_words(words: &[String]) -> Option<(&str, &[String])>
+    ensures { MatchOption result
+        ((program name : Text) (others : List Text) → texts words.now ≢ program ∷ name ∷ others)
+        (λ parts. (program : Text) × (texts words.now ≡ program ∷ parts.0.now ∷ texts parts.1.now)) }
+{
+    let Some((_, behind)) = words.split_first() else {
+        return None;
+    };
+    let Some((name, others)) = behind.split_first() else {
+        return None;
+    };
+    Some((name.as_str(), others))
+}
+
+/// The one word that is no option. None where there is none, or another.
+fn only_operand<'a>(operands: &[&'a str]) -> Option<&'a str>
+    ensures { MatchOption result
+        ((operand : Text) → map (λ word. word.now) operands.now ≢ operand ∷ [])
+        (λ operand. map (λ word. word.now) operands.now ≡ operand.now ∷ []) }
+{
+    let Some((operand, others)) = operands.split_first() else {
+        return None;
+    };
+    if others.is_empty() {
+        Some(*operand)
+    } else {
+        None
+    }
+}
+
 /// What the words ask of a program of which so much is built. `Refused` comes exactly where they ask for nothing,
 /// `NoMemory` where there was no memory.
 pub fn read_words(alloc: Global, words: &Words, built: &Built<'_>) -> Result<Request, WordsFault>
@@ -119,18 +150,19 @@ pub fn read_words(alloc: Global, words: &Words, built: &Built<'_>) -> Result<Req
     ensures refused { IsErrOf result WordsFault.Refused → AreRefused built.now words.now }
     ensures bounds { IfOk result HasBounds }
 {
-    let [_, name, others @ ..] = words.as_slice() else {
+    let Some((name, others)) = command_words(words.as_slice()) else {
         return Err(WordsFault::Refused);
     };
-    let Some(command) = command_named(name.as_str()) else {
+    let Some(command) = command_named(name) else {
         return Err(WordsFault::Refused);
     };
     let said = read_parts(alloc, others)?;
-    let [operand] = said.operands.as_slice() else {
+    let Some(operand) = only_operand(said.operands.as_slice()) else {
         return Err(WordsFault::Refused);
     };
     let given = said.given.as_slice();
-    if !is_allowed(alloc, built, command, operand, given)? {
+    let fits = is_allowed(alloc, built, command, operand, given)?;
+    if !fits {
         return Err(WordsFault::Refused);
     }
     Ok(make_request(alloc, command, operand, given)?)
