@@ -52,7 +52,7 @@ tests_Decides : (least most : ℕ) (text : Text) → Decides (tests least most t
 tests_Decides least most text =
     let n = digits_value 10 text in
     let d = Decides-and (nat_lt n (2 ^ 64)) (nat_le least n && nat_le n most) (Decides-ltb n (2 ^ 64))
-        (Decides-and (nat_le least n) (nat_le n most) (le_Decides least n) (le_Decides n most)) in
+    (Decides-and (nat_le least n) (nat_le n most) (le_Decides least n) (le_Decides n most)) in
     (λ e. let p = d.0 e in (p.0, p.1.0, p.1.1), λ p. d.1 (p.0, (p.1, p.2)))
 
 pub accepts_Decides : (least most : ℕ) (text : Text) → IsNumeral 10 text → Decides (accepts false (vp.Unsigned least most) text) (Lies least most text)

@@ -142,8 +142,8 @@ module _ (built : Built) (words : List Text) (program name : Text) (others : Lis
       let words_are : words ≡ program ∷ command_name command ∷ others = are ∙ ap (λ (n : Text). program ∷ n ∷ others) (sym named) in
       let same = same_parts r.program program r.command command r.others others r.given given r.operand operand (sym r.words_are ∙ words_are) r.says says in
       refused (subst (λ (c : Command). IsAllowed built c operand given) same.0
-          (subst (λ (o : Text). IsAllowed built r.command o given) same.1
-          (subst (λ (g : List Given). IsAllowed built r.command r.operand g) same.2 r.allowed)))
+      (subst (λ (o : Text). IsAllowed built r.command o given) same.1
+      (subst (λ (g : List Given). IsAllowed built r.command r.operand g) same.2 r.allowed)))
 
   pub asked_for : (command : Command) (operand : Text) (given : List Given) (request : Request) → command_name command ≡ name → Says others given (operand ∷ [])
       → IsAllowed built command operand given → request ≡ request_of command operand given → Reads built words request

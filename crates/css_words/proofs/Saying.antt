@@ -33,7 +33,7 @@ go_on (i ∷ is) [] rest behind f g e =
     absurd (no_tail i (flat_map spelling is ++ rest) behind f.0 (sym e ∙ append_assoc (spelling i) (flat_map spelling is) rest))
 go_on (i ∷ is) (j ∷ js) rest behind f g e =
     let parts = one_item i j (flat_map spelling is ++ rest) (flat_map spelling js ++ tail_of behind) f.0 g.0
-        (sym (append_assoc (spelling i) (flat_map spelling is) rest) ∙ (e ∙ append_assoc (spelling j) (flat_map spelling js) (tail_of behind))) in
+    (sym (append_assoc (spelling i) (flat_map spelling is) rest) ∙ (e ∙ append_assoc (spelling j) (flat_map spelling js) (tail_of behind))) in
     let next = go_on is js rest behind f.1 g.1 parts.1 in
     record { more = next.more; are = next.are; all_are = ap₂ (λ (x : Item) (xs : List Item). x ∷ xs) (sym parts.0) next.all_are; spelled = next.spelled }
 
@@ -53,11 +53,12 @@ ends items all a b g = step g.more g.are g.all_are g.spelled
 pub one_saying : (words : List Text) (g h : List Given) (os ps : List Text) → Says words g os → Says words h ps → (g ≡ h) × (os ≡ ps)
 one_saying words g h os ps s t =
     let same = ends s.items t.items s.behind t.behind
-        (go_on s.items t.items (tail_of s.behind) t.behind (recursion_from_All IsItem s.items s.are_items) (recursion_from_All IsItem t.items t.are_items) (sym s.spelled ∙ t.spelled)) in
+    (go_on s.items t.items (tail_of s.behind) t.behind (recursion_from_All IsItem s.items s.are_items) (recursion_from_All IsItem t.items t.are_items) (sym s.spelled ∙ t.spelled)) in
     let items : t.items ≡ s.items = same.0 in
-    let behind : s.behind ≡ t.behind = same.1 in
-    (s.given_are ∙ (ap (flat_map given_by) (sym items) ∙ sym t.given_are),
-     s.operands_are ∙ (ap₂ (λ (x : List Item) (y : Option (List Text)). flat_map operand_by x ++ behind_of y) (sym items) behind ∙ sym t.operands_are))
+    let behind : s.behind ≡ t.behind = same.1 in (
+      s.given_are ∙ (ap (flat_map given_by) (sym items) ∙ sym t.given_are),
+      s.operands_are ∙ (ap₂ (λ (x : List Item) (y : Option (List Text)). flat_map operand_by x ++ behind_of y) (sym items) behind ∙ sym t.operands_are),
+    )
 
 -- Where items are followed by what is no item and not the end, the words say nothing.
 pub blocked : (words : List Text) (items : List Item) (first : Text) (others : List Text) → All IsItem items

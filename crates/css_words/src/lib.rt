@@ -23,3 +23,6 @@ pub use options::OptionName;
 pub use reading::read_words;
 pub use request::Request;
 pub use table::{OptionKind, OptionRow, row};
+
+#[cfg(test)]
+mod tests;

@@ -54,8 +54,8 @@ fn joined<'a>(name: &str, value: &'a str, others: &'a [String]) -> Option<(Part<
     ensures found { MatchOption result
         ((option : OptionName) → option_name option ≡ name.now → is_flag (kind_of option) ≡ false → ⊥)
         (λ found. StandsFirst
-            ((codes "--" ++ (name.now ++ (codes "=" ++ value.entry.now))) ∷ texts others.entry.now)
-            found.0 (texts found.1.now)) }
+        ((codes "--" ++ (name.now ++ (codes "=" ++ value.entry.now))) ∷ texts others.entry.now)
+        found.0 (texts found.1.now)) }
     ensures shorter { IfSome result (λ found. length found.1.now ≤ length others.entry.now) }
 {
     let Some(option) = option_named(name) else {
@@ -94,7 +94,10 @@ fn apart<'a>(name: &str, others: &'a [String]) -> Option<(Part<'a>, &'a [String]
 }
 
 /// What stands first, and the words behind it. None where no item stands there.
-pub(crate) fn first_part<'a>(first: &'a str, others: &'a [String]) -> Option<(Part<'a>, &'a [String])>
+pub(crate) fn first_part<'a>(
+    first: &'a str,
+    others: &'a [String],
+) -> Option<(Part<'a>, &'a [String])>
     ensures found { MatchOption result
         (NothingStandsFirst (first.entry.now ∷ texts others.entry.now))
         (λ found. StandsFirst (first.entry.now ∷ texts others.entry.now) found.0 (texts found.1.now)) }

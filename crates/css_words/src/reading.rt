@@ -87,7 +87,12 @@ fn program_number(command: Command, operand: &str) -> u32
 }
 
 /// What is asked for.
-fn make_request(alloc: Global, command: Command, operand: &str, given: &[Given<'_>]) -> Result<Request, NoMemory>
+fn make_request(
+    alloc: Global,
+    command: Command,
+    operand: &str,
+    given: &[Given<'_>],
+) -> Result<Request, NoMemory>
     requires values { All (λ g. IsValue (kind_of g.0) g.1) (pairs given.now) }
     requires operand { IsOperandOf command operand.now }
     ensures { IfOk result (λ request. request ≡ request_of command operand.now (pairs given.now)) }

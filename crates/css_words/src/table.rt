@@ -2,9 +2,7 @@
 ghost use Rattle.std.specs.Prelude.{◌≡◌};
 ghost use Rattle.css_words.specs.Options.{IsRow, entry, row};
 
-use crate::command::Command::{
-    self, Audit, Erased, Graph, Make, Plan, Resume, Run, Save, Sim,
-};
+use crate::command::Command::{self, Audit, Erased, Graph, Make, Plan, Resume, Run, Save, Sim};
 use crate::options::OptionName;
 
 /// What value an option takes.
@@ -45,25 +43,47 @@ static RUNNING: [Command; 9] = [Erased, Run, Sim, Graph, Make, Audit, Plan, Save
 /// The commands that run tasks.
 static TASKING: [Command; 8] = [Run, Sim, Graph, Make, Audit, Plan, Save, Resume];
 
-fn number(name: &'static str, least: u64, most: u64, default: u64, commands: &'static [Command]) -> OptionRow
+fn number(
+    name: &'static str,
+    least: u64,
+    most: u64,
+    default: u64,
+    commands: &'static [Command],
+) -> OptionRow
     ensures { IsRow result (entry name.entry.now (OptionKind.Number least most default) commands.entry.now) }
 {
-    let kind = OptionKind::Number { least, most, default };
-    OptionRow { name, kind, commands }
+    let kind = OptionKind::Number {
+        least,
+        most,
+        default,
+    };
+    OptionRow {
+        name,
+        kind,
+        commands,
+    }
 }
 
 fn flag(name: &'static str, commands: &'static [Command]) -> OptionRow
     ensures { IsRow result (entry name.entry.now OptionKind.Flag commands.entry.now) }
 {
     let kind = OptionKind::Flag;
-    OptionRow { name, kind, commands }
+    OptionRow {
+        name,
+        kind,
+        commands,
+    }
 }
 
 fn file(name: &'static str, commands: &'static [Command]) -> OptionRow
     ensures { IsRow result (entry name.entry.now OptionKind.File commands.entry.now) }
 {
     let kind = OptionKind::File;
-    OptionRow { name, kind, commands }
+    OptionRow {
+        name,
+        kind,
+        commands,
+    }
 }
 
 /// An option's row.

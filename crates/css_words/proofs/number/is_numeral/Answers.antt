@@ -21,7 +21,7 @@ loop-byte-preserved c =
 pub returns : goal.returns
 returns c =
     let all : All (λ b. digit_value b < 10) c.as_bytes-byte-items.result.now =
-        subst (λ (bs : List ℕ). All (λ b. digit_value b < 10) bs) (take_all c.loop-byte.byte-index c.as_bytes-byte-items.result.now c.loop-byte-test.false) c.loop-byte.invariant in
+    subst (λ (bs : List ℕ). All (λ b. digit_value b < 10) bs) (take_all c.loop-byte.byte-index c.as_bytes-byte-items.result.now c.loop-byte-test.false) c.loop-byte.invariant in
     let empty : (length c.args.text.now == 0) ≡ false = sym c.is_empty.ensures ∙ c.if-is_empty.false in
     let some : 0 < length c.args.text.now = grind (arith, nat_tests, empty) in
     (λ _. ((some, digits_from_all c.args.text.now (subst (λ (bs : List ℕ). All (λ b. digit_value b < 10) bs) c.as_bytes-byte-items.ensures.value all)), c.if-text-gt20.false), λ _. refl)

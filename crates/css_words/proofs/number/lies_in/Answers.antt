@@ -11,7 +11,7 @@ pub returns-in-Ok : goal.returns-in-Ok
 returns-in-Ok c =
     let given = c.value_parser-value.ensures.given in
     let rule_is : rule_of c.value_parser-value.result ≡ value_rule c.args.least c.args.most = ap rule_of c.value_parser-value.ensures.others
-        ∙ ap₂ (λ (r : Rule) (p : Option ValueParser). record r { parser = p }) c.new.ensures.rule (given.1 ∙ ap Some (given.2 ∙ c.unsigned.ensures)) in
+    ∙ ap₂ (λ (r : Rule) (p : Option ValueParser). record r { parser = p }) c.new.ensures.rule (given.1 ∙ ap Some (given.2 ∙ c.unsigned.ensures)) in
     let local : c.value_parser-value.result.global ≡ false = ap (λ a. a.global) c.value_parser-value.ensures.others ∙ c.new.ensures.optional.1 in
     let app_is : app_of c.in_ok-command.command ≡ number_app c.args.least c.args.most = c.in_ok-command.ensures.shape local ∙ ap₂ with_rule c.new-2.ensures.app rule_is in
     let words_are : map (λ s. s.now) c.as_slice.result.now ≡ codes "number" ∷ codes "--" ∷ c.args.digits.now ∷ [] = search rules in
@@ -24,7 +24,7 @@ pub returns : goal.returns
 returns c =
     let given = c.value_parser-value.ensures.given in
     let rule_is : rule_of c.value_parser-value.result ≡ value_rule c.args.least c.args.most = ap rule_of c.value_parser-value.ensures.others
-        ∙ ap₂ (λ (r : Rule) (p : Option ValueParser). record r { parser = p }) c.new.ensures.rule (given.1 ∙ ap Some (given.2 ∙ c.unsigned.ensures)) in
+    ∙ ap₂ (λ (r : Rule) (p : Option ValueParser). record r { parser = p }) c.new.ensures.rule (given.1 ∙ ap Some (given.2 ∙ c.unsigned.ensures)) in
     let local : c.value_parser-value.result.global ≡ false = ap (λ a. a.global) c.value_parser-value.ensures.others ∙ c.new.ensures.optional.1 in
     let app_is : app_of c.in_ok-command.command ≡ number_app c.args.least c.args.most = c.in_ok-command.ensures.shape local ∙ ap₂ with_rule c.new-2.ensures.app rule_is in
     let words_are : map (λ s. s.now) c.as_slice.result.now ≡ codes "number" ∷ codes "--" ∷ c.args.digits.now ∷ [] = search rules in

@@ -14,7 +14,7 @@ returns-then-eq-clause-ok c =
     let others = texts c.in-Some.others.now in
     let dashes : c.as_str-first.result.now ≡ codes "--" = (bytes_eq-Decides c.as_str-first.result.now (codes "--")).0 (sym c.eq.ensures ∙ c.if-eq.true) in
     let rest : texts c.loop-first.rest.now ≡ codes "--" ∷ others =
-        ap texts c.in-Some.ensures.cases.0 ∙ ap (λ (word : Text). word ∷ others) (sym c.as_str-first.ensures.value ∙ dashes) in
+    ap texts c.in-Some.ensures.cases.0 ∙ ap (λ (word : Text). word ∷ others) (sym c.as_str-first.ensures.value ∙ dashes) in
     record {
       items = so_far.0;
       behind = Some others;
@@ -29,9 +29,9 @@ returns-in_default-first_part-clause-refused c =
     let so_far = c.loop-first.invariant in
     let others = texts c.in-Some.others.now in
     let rest : texts c.loop-first.rest.now ≡ c.as_str-first.result.now ∷ others =
-        ap texts c.in-Some.ensures.cases.0 ∙ ap (λ (word : Text). word ∷ others) (sym c.as_str-first.ensures.value) in
+    ap texts c.in-Some.ensures.cases.0 ∙ ap (λ (word : Text). word ∷ others) (sym c.as_str-first.ensures.value) in
     let other : c.as_str-first.result.now ≢ codes "--" =
-        λ e. true≢false (sym (c.eq.ensures ∙ (bytes_eq-Decides c.as_str-first.result.now (codes "--")).1 e) ∙ c.if-eq.false) in
+    λ e. true≢false (sym (c.eq.ensures ∙ (bytes_eq-Decides c.as_str-first.result.now (codes "--")).1 e) ∙ c.if-eq.false) in
     λ _. blocked (texts c.args.words.now) so_far.0 c.as_str-first.result.now others so_far.1
     (so_far.2 ∙ ap (λ (words : List Text). flat_map spelling so_far.0 ++ words) rest) other c.in_default-first_part.ensures.found
 
@@ -40,14 +40,15 @@ loop-first-preserved c =
     let so_far = c.loop-first.invariant in
     let others = texts c.in-Some.others.now in
     let rest : texts c.loop-first.rest.now ≡ c.as_str-first.result.now ∷ others =
-        ap texts c.in-Some.ensures.cases.0 ∙ ap (λ (word : Text). word ∷ others) (sym c.as_str-first.ensures.value) in
-    let found = c.in-Some-first_part.ensures.found in
-    (so_far.0 ++ found.item ∷ [],
-     All-push IsItem so_far.0 found.item so_far.1 found.begins.is_item,
-     so_far.2 ∙ (ap (λ (words : List Text). flat_map spelling so_far.0 ++ words) (rest ∙ found.begins.spelled) ∙ more_items so_far.0 found.item (texts c.in-Some-first_part.behind.now)),
-     c.in_ok-said.ensures.given
-     ∙ (ap (λ (given : List Given). given ++ given_in c.in-Some-first_part.part) so_far.3
-     ∙ (ap (λ (given : List Given). flat_map given_by so_far.0 ++ given) found.given ∙ sym (flat_map_push given_by so_far.0 found.item))),
-     c.in_ok-said.ensures.operands
-     ∙ (ap (λ (words : List Text). words ++ operand_in c.in-Some-first_part.part) so_far.4
-     ∙ (ap (λ (words : List Text). flat_map operand_by so_far.0 ++ words) found.operand ∙ sym (flat_map_push operand_by so_far.0 found.item))))
+    ap texts c.in-Some.ensures.cases.0 ∙ ap (λ (word : Text). word ∷ others) (sym c.as_str-first.ensures.value) in
+    let found = c.in-Some-first_part.ensures.found in (
+      so_far.0 ++ found.item ∷ [],
+      All-push IsItem so_far.0 found.item so_far.1 found.begins.is_item,
+      so_far.2 ∙ (ap (λ (words : List Text). flat_map spelling so_far.0 ++ words) (rest ∙ found.begins.spelled) ∙ more_items so_far.0 found.item (texts c.in-Some-first_part.behind.now)),
+      c.in_ok-said.ensures.given
+          ∙ (ap (λ (given : List Given). given ++ given_in c.in-Some-first_part.part) so_far.3
+          ∙ (ap (λ (given : List Given). flat_map given_by so_far.0 ++ given) found.given ∙ sym (flat_map_push given_by so_far.0 found.item))),
+      c.in_ok-said.ensures.operands
+          ∙ (ap (λ (words : List Text). words ++ operand_in c.in-Some-first_part.part) so_far.4
+          ∙ (ap (λ (words : List Text). flat_map operand_by so_far.0 ++ words) found.operand ∙ sym (flat_map_push operand_by so_far.0 found.item))),
+    )
