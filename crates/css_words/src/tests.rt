@@ -6,7 +6,7 @@ use css_base::{NoMemory, Words};
 use std::alloc::Global;
 use std::process::Abort;
 
-const MADE: [(&str, &str); 46] = [
+static MADE: [(&str, &str); 46] = [
     ("cssrun check f", "check f"),
     ("cssrun code f", "code f"),
     ("cssrun erased f", "erased f"),
@@ -91,7 +91,7 @@ const MADE: [(&str, &str); 46] = [
     ),
 ];
 
-const REFUSED: [&str; 74] = [
+static REFUSED: [&str; 74] = [
     "",
     "cssrun",
     "cssrun f run",
@@ -231,46 +231,75 @@ fn reading(alloc: Global, text: &str, built: &Built<'_>) -> Result<String, NoMem
     }
 }
 
-#[test]
-fn words_are_read(rt: HostRuntime) -> Result<(), NoMemory> {
-    let alloc = rt.alloc();
-    let (commands, options) = (Command::ALL, OptionName::ALL);
-    let built = Built {
-        commands: commands.as_slice(),
-        options: options.as_slice(),
-    };
-    for (text, want) in MADE {
-        let made = reading(alloc, text, &built)?;
-        assert_eq!(rt; made.as_str(), want, "{text}");
+/// Each row's words ask for what it shows.
+fn reads(
+    rt: &impl Abort,
+    alloc: Global,
+    built: &Built<'_>,
+    rows: &[(&str, &str)],
+) -> Result<(), NoMemory> {
+    for (text, want) in rows {
+        let made = reading(alloc, text, built)?;
+        assert_eq!(rt; made.as_str(), *want, "{text}");
     }
-    for text in REFUSED {
-        let made = reading(alloc, text, &built)?;
-        assert_eq!(rt; made.as_str(), "", "{text}");
-    }
-    let none = read_words(alloc, &Words::new(Vec::new(alloc)), &built);
-    assert!(rt; matches!(none, Err(WordsFault::Refused)));
     Ok(())
 }
 
-#[test]
-fn what_is_not_built_is_refused(rt: HostRuntime) -> Result<(), NoMemory> {
-    let alloc = rt.alloc();
-    let commands = [Command::Erased, Command::Run];
-    let options = [OptionName::Memory];
-    let built = Built {
-        commands: commands.as_slice(),
-        options: options.as_slice(),
-    };
-    let rows = [
-        ("cssrun erased f", "erased f"),
-        ("cssrun run --memory 2097152 f", "run f memory 2097152"),
-        ("cssrun sim f", ""),
-        ("cssrun run --images f", ""),
-        ("cssrun erased --main-units 1 f", ""),
-    ];
-    for (text, want) in rows {
-        let made = reading(alloc, text, &built)?;
-        assert_eq!(rt; made.as_str(), want, "{text}");
+/// All these words are refused.
+fn refuses(
+    rt: &impl Abort,
+    alloc: Global,
+    built: &Built<'_>,
+    rows: &[&str],
+) -> Result<(), NoMemory> {
+    for text in rows {
+        let made = reading(alloc, text, built)?;
+        assert_eq!(rt; made.as_str(), "", "{text}");
     }
     Ok(())
+}
+
+static COMMANDS: [Command; 11] = Command::ALL;
+
+static OPTIONS: [OptionName; 15] = OptionName::ALL;
+
+#[test]
+fn words_are_read(rt: HostRuntime) -> Result<(), NoMemory> {
+    let built = Built {
+        commands: COMMANDS.as_slice(),
+        options: OPTIONS.as_slice(),
+    };
+    reads(&rt, rt.alloc(), &built, MADE.as_slice())
+}
+
+#[test]
+fn words_are_refused(rt: HostRuntime) -> Result<(), NoMemory> {
+    let built = Built {
+        commands: COMMANDS.as_slice(),
+        options: OPTIONS.as_slice(),
+    };
+    let none = read_words(rt.alloc(), &Words::new(Vec::new(rt.alloc())), &built);
+    assert!(rt; matches!(none, Err(WordsFault::Refused)));
+    refuses(&rt, rt.alloc(), &built, REFUSED.as_slice())
+}
+
+static SOME_COMMANDS: [Command; 2] = [Command::Erased, Command::Run];
+
+static SOME_OPTIONS: [OptionName; 1] = [OptionName::Memory];
+
+static OF_SOME: [(&str, &str); 5] = [
+    ("cssrun erased f", "erased f"),
+    ("cssrun run --memory 2097152 f", "run f memory 2097152"),
+    ("cssrun sim f", ""),
+    ("cssrun run --images f", ""),
+    ("cssrun erased --main-units 1 f", ""),
+];
+
+#[test]
+fn what_is_not_built_is_refused(rt: HostRuntime) -> Result<(), NoMemory> {
+    let built = Built {
+        commands: SOME_COMMANDS.as_slice(),
+        options: SOME_OPTIONS.as_slice(),
+    };
+    reads(&rt, rt.alloc(), &built, OF_SOME.as_slice())
 }
