@@ -1,9 +1,9 @@
 -- What stands first among words is one item.
-use Rattle.std.proofs.Common.{◌≡◌, ◌∙◌, ◌≢◌, ◌⊎◌, ℕ, suc, Bool, true, false, List, [], ◌∷◌, ◌++◌, ◌<◌, length, get_or, codes, refl, sym, ap, inl, inr, arith}
+use Rattle.std.proofs.Common.{◌≡◌, ◌∙◌, ◌≢◌, ◌⊎◌, ℕ, suc, true, false, List, [], ◌∷◌, ◌++◌, ◌<◌, length, get_or, codes, refl, sym, ap, inl, inr, arith}
 use Rattle.css_words.specs.declared.options.OptionName.{OptionName}
 use Rattle.css_words.specs.Options.{Text, option_name, kind_of}
 use Rattle.css_words.specs.Items.{Item, Raised, Apart, Joined, Operand, IsItem, IsPlain, spelling, is_flag}
-use Rattle.css_words.specs.Parts.{BeginsWith, NothingStandsFirst}
+use Rattle.css_words.specs.Parts.{NothingStandsFirst}
 use Rattle.css_words.proofs.Names.{NoEquals, no_equals, named, same_option}
 
 abbrev rest_of : {X : Type 0} → List X → List X

@@ -1,8 +1,7 @@
 -- Names of commands and options: they differ, and none is empty or has a `=`.
-use Rattle.std.proofs.Common.{◌≡◌, ◌∙◌, ◌≢◌, ℕ, Bool, true, false, not, ◌&&◌, ◌<◌, ◌==◌, List, [], ◌∷◌, ◌++◌, length, take, cond, nat_lt, bytes_eq, refl, sym, ap, subst, arith, All, Decides}
+use Rattle.std.proofs.Common.{◌≡◌, ◌∙◌, ◌≢◌, ℕ, Bool, true, false, not, ◌&&◌, ◌==◌, List, [], ◌∷◌, length, cond, nat_lt, bytes_eq, refl, sym, ap, subst, arith, All, Decides}
 use Rattle.std.specs.List.{list_all}
 use Rattle.std.proofs.lemmas.Slice.Eq.{bytes_eq-Decides}
-use Rattle.std.proofs.lemmas.List.Elements.{All-head, All-tail}
 use Rattle.css_words.specs.declared.command.Command.{Command}
 use Rattle.css_words.specs.declared.command.Command.TheVariants.{Check, Code, Erased, Run, Sim, Graph, Make, Audit, Plan, Save, Resume}
 use Rattle.css_words.specs.declared.options.OptionName.{OptionName}

@@ -1,11 +1,11 @@
 -- Texts of digits.
-use Rattle.std.proofs.Common.{◌≡◌, ◌⊎◌, ◌<◌, ◌≤◌, ◌==◌, ◌&&◌, ℕ, Bool, true, false, cond, nat_lt, List, [], ◌∷◌, All, length, drop, get_or, refl, ap, sym, arith, Decides}
+use Rattle.std.proofs.Common.{◌≡◌, ◌<◌, ◌==◌, ◌&&◌, ℕ, Bool, true, false, cond, nat_lt, List, [], ◌∷◌, All, length, drop, get_or, refl, ap, arith}
 use Rattle.std.specs.List.{AllByRecursion, list_all}
 use Rattle.std.specs.Char.{digit_value, IsNotAsciiDigit}
 use Rattle.std.specs.Str.Parse.{AllDigits, IsNumeral, without_leading_plus}
 use Rattle.std.proofs.lemmas.Bool.{ne_eqb}
 use Rattle.std.proofs.lemmas.Str.Parse.{digit_from_value, digit_at}
-use Rattle.std.proofs.lemmas.List.Elements.{All-from_recursion, recursion_from_All}
+use Rattle.std.proofs.lemmas.List.Elements.{recursion_from_All}
 
 by_recursion : (ds : List ℕ) → AllByRecursion (λ d. digit_value d < 10) ds → AllDigits 10 ds
 by_recursion [] h = tt

@@ -1,6 +1,5 @@
 -- Options that are given, one after the other.
-use Rattle.std.proofs.Common.{◌≡◌, ◌∙◌, ◌<◌, ◌+◌, ℕ, Bool, true, false, List, [], ◌∷◌, Option, Some, None, All, Contains, IsSome, IsTrue, IfOk, Result, Ok, Err, ◌↔◌, map, length, take, drop, get_or, refl, sym, ap, arith, if◌then◌else◌}
-use Rattle.std.specs.Prelude.{string_bytes}
+use Rattle.std.proofs.Common.{◌≡◌, ◌∙◌, ◌<◌, ◌+◌, ℕ, Bool, true, false, List, [], ◌∷◌, Some, All, Contains, IsSome, IsTrue, IfOk, Result, Ok, Err, ◌↔◌, length, drop, get_or, ap, if◌then◌else◌}
 use Rattle.std.proofs.lemmas.List.{drop_more}
 use Rattle.std.proofs.lemmas.List.Elements.{All-nil, All-cons, All-head, All-tail, All-get_or}
 use Rattle.css_words.specs.declared.options.OptionName.{OptionName}

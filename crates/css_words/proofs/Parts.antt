@@ -1,11 +1,11 @@
 -- What the code finds first among words.
-use Rattle.std.proofs.Common.{◌≡◌, ◌∙◌, ◌⊎◌, ◌<◌, ◌+◌, ℕ, true, false, List, [], ◌∷◌, ◌++◌, Option, Some, None, MatchOption, IsNone, codes, drop, length, refl, sym, ap, ap₂, subst}
+use Rattle.std.proofs.Common.{◌≡◌, ◌∙◌, ◌⊎◌, ◌+◌, ℕ, true, false, List, [], ◌∷◌, ◌++◌, Option, Some, None, MatchOption, IsNone, codes, drop, length, refl, sym, ap, ap₂, subst}
 use Rattle.std.specs.Str.Pattern.{FindsTextPrefix}
 use Rattle.css_words.specs.declared.options.OptionName.{OptionName}
 use Rattle.css_words.specs.declared.part.Part.{Part}
 use Rattle.css_words.specs.Options.{Text, option_name, kind_of}
 use Rattle.css_words.specs.Items.{Raised, Apart, Joined, Operand, IsPlain, is_flag}
-use Rattle.css_words.specs.Parts.{BeginsWith, StandsFirst, NothingStandsFirst, given_in, operand_in}
+use Rattle.css_words.specs.Parts.{StandsFirst, NothingStandsFirst, given_in, operand_in}
 use Rattle.css_words.proofs.Names.{NoEquals}
 use Rattle.css_words.proofs.Items.{no_joined_option, no_apart_option}
 

@@ -1,6 +1,6 @@
 -- The range of a number, as the parser of a command line's value tests it.
-use Rattle.std.proofs.Common.{◌≡◌, ◌∙◌, ◌<◌, ◌≤◌, ◌&&◌, ◌^◌, ℕ, Bool, true, false, nat_lt, nat_le, List, [], ◌∷◌, length, codes, refl, sym, ap, arith, Decides, if◌then◌else◌, Some, IsTrue, ◌↔◌, true≢false}
-use Rattle.std.specs.Str.Parse.{IsNumeral, digits_value, without_leading_plus}
+use Rattle.std.proofs.Common.{◌≡◌, ◌∙◌, ◌<◌, ◌≤◌, ◌&&◌, ◌^◌, ℕ, Bool, true, false, nat_lt, nat_le, List, [], ◌∷◌, codes, refl, sym, ap, arith, Decides, if◌then◌else◌, Some, IsTrue, ◌↔◌, true≢false}
+use Rattle.std.specs.Str.Parse.{IsNumeral, digits_value}
 use Rattle.clap.specs.Words.{App, Rule, Text, new_app, new_rule, with_rule, fault_of, is_simple_and_free, Kinds, IsAmong}
 use Rattle.clap.specs.Kinds.{or_else}
 use Rattle.std.proofs.lemmas.Bool.Decides.{Decides-and, Decides-at, Decides-ltb, nat_tests}

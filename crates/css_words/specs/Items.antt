@@ -1,5 +1,5 @@
 -- How a command line is spelled.
-use Rattle.std.specs.Prelude.{◌≡◌, ◌≢◌, ◌⊎◌, ℕ, Bool, true, false, List, [], ◌∷◌, ◌++◌, All, Option, Some, None, codes, flat_map}
+use Rattle.std.specs.Prelude.{◌≡◌, ◌≢◌, ◌⊎◌, Bool, true, false, List, [], ◌∷◌, ◌++◌, All, Option, Some, None, codes, flat_map}
 use Rattle.css_words.specs.declared.options.OptionName.{OptionName}
 use Rattle.css_words.specs.declared.table.OptionKind.{OptionKind}
 use Rattle.css_words.specs.declared.table.OptionKind.TheVariants.{Flag}

@@ -1,5 +1,5 @@
 -- What a command line asks for.
-use Rattle.std.specs.Prelude.{◌≡◌, ◌≤◌, ◌<◌, ◌-◌, ◌%◌, ◌^◌, ℕ, Bool, List, [], ◌∷◌, length, map, All, Contains, Option, Some, None, IsSome, is_some, unwrap_or, if◌then◌else◌}
+use Rattle.std.specs.Prelude.{◌≡◌, ◌≤◌, ◌<◌, ◌-◌, ◌%◌, ◌^◌, ℕ, Bool, List, [], ◌∷◌, length, All, Contains, Option, Some, None, IsSome, is_some, unwrap_or, if◌then◌else◌}
 use Rattle.std.specs.Str.{bytes_eq}
 use Rattle.std.specs.Str.Parse.{IsNumeral, digits_value}
 use Rattle.css_base.specs.declared.limits.Limits.{Limits}
@@ -10,7 +10,7 @@ use Rattle.css_words.specs.declared.command.Command.TheVariants.{Make}
 use Rattle.css_words.specs.declared.options.OptionName.{OptionName}
 use Rattle.css_words.specs.declared.options.OptionName.TheVariants.{Memory, MainUnits, TaskUnits, LocalStore, Workers, Bundle, Seed, Images, Stats, Trace, Print, TraceFile, Shared, Barrier, State}
 use Rattle.css_words.specs.declared.table.OptionKind.{OptionKind}
-use Rattle.css_words.specs.declared.table.OptionKind.TheVariants.{Flag, Number, File}
+use Rattle.css_words.specs.declared.table.OptionKind.TheVariants.{Number, File}
 use Rattle.css_words.specs.declared.request.Request.{Request}
 use Rattle.css_words.specs.Options.{Text, command_name, option_name, kind_of, commands_of}
 use Rattle.css_words.specs.Items.{Given, Says}

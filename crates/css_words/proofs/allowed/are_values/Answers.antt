@@ -1,9 +1,9 @@
-use Rattle.std.proofs.Common.{◌≡◌, ◌∙◌, true, false, List, All, take, refl, sym, subst, true≢false}
+use Rattle.std.proofs.Common.{◌∙◌, List, All, refl, sym, subst, true≢false}
 use Rattle.std.proofs.lemmas.List.{take_all}
 use Rattle.std.proofs.lemmas.List.Elements.{All-more}
 use Rattle.css_words.specs.declared.part.Given.{Given as GivenOption}
 use Rattle.css_words.specs.Options.{kind_of}
-use Rattle.css_words.specs.Reading.{IsOptionOf, IsValue}
+use Rattle.css_words.specs.Reading.{IsValue}
 use Rattle.css_words.proofs.Pairs.{all_pairs, not_all}
 use Rattle.css_words.proofs.allowed.are_values.Goals as goal
 

@@ -1,4 +1,4 @@
-use Rattle.std.proofs.Common.{◌≡◌, ◌∙◌, ℕ, true, false, All, take, refl, sym, subst, arith, IsSome}
+use Rattle.std.proofs.Common.{◌≡◌, ℕ, All, take, refl, subst, arith, IsSome}
 use Rattle.std.proofs.lemmas.List.Elements.{All-more}
 use Rattle.css_words.specs.declared.options.OptionName.{OptionName}
 use Rattle.css_words.specs.declared.options.OptionName.TheVariants.{Memory}

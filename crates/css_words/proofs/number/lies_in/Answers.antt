@@ -1,9 +1,8 @@
-use Rattle.std.proofs.Common.{◌≡◌, ◌∙◌, ◌⊎◌, List, [], ◌∷◌, Option, Some, inl, inr, true, false, codes, map, refl, sym, ap, ap₂, rules}
-use Rattle.clap.specs.Words.{App, Rule, app_of, fault_of, is_simple_and_free, rule_of, with_rule}
+use Rattle.std.proofs.Common.{◌≡◌, ◌∙◌, [], ◌∷◌, Option, Some, inl, inr, false, codes, map, sym, ap, ap₂, rules}
+use Rattle.clap.specs.Words.{Rule, app_of, fault_of, is_simple_and_free, rule_of, with_rule}
 use Rattle.clap.specs.ValueTests.{accepts}
 use Rattle.clap.specs.declared.builder.value_parser.ValueParser.{ValueParser}
 use Rattle.clap.specs.declared.builder.value_parser.ValueParser.TheVariants as vp
-use Rattle.css_words.specs.Options.{Text}
 use Rattle.css_words.proofs.Ranges.{Lies, number_app, value_rule, number_is_simple, number_fault, accepts_Decides, passes_without_faults, fails_with_fault, is_passed, is_refused}
 use Rattle.css_words.proofs.number.lies_in.Goals as goal
 

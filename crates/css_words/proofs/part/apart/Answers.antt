@@ -1,4 +1,4 @@
-use Rattle.std.proofs.Common.{◌∙◌, List, ◌∷◌, refl, sym, ap}
+use Rattle.std.proofs.Common.{◌∙◌, ◌∷◌, refl, sym, ap}
 use Rattle.css_words.specs.Options.{Text}
 use Rattle.css_words.specs.Parts.{texts}
 use Rattle.css_words.proofs.Parts.{found_flag, found_apart}

@@ -1,4 +1,4 @@
-use Rattle.std.proofs.Common.{◌∙◌, ◌++◌, Some, codes, refl, sym, ap, lit<}
+use Rattle.std.proofs.Common.{◌∙◌, ◌++◌, Some, codes, refl, ap, lit<}
 use Rattle.std.proofs.lemmas.Str.Pattern.{split_parts}
 use Rattle.css_words.specs.Options.{Text}
 use Rattle.css_words.specs.Parts.{texts}

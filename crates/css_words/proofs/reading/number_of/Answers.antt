@@ -1,4 +1,4 @@
-use Rattle.std.proofs.Common.{◌≡◌, ◌∙◌, sym, subst, ◌≤◌, ℕ}
+use Rattle.std.proofs.Common.{◌∙◌, sym, subst, ◌≤◌, ℕ}
 use Rattle.css_words.specs.Parts.{pairs}
 use Rattle.css_words.specs.Options.{kind_of}
 use Rattle.css_words.specs.Reading.{most_of}
