@@ -1,0 +1,8 @@
+pub mod Names
+pub mod Items
+pub mod Saying
+pub mod Parts
+pub mod Pairs
+pub mod Numbers
+pub mod Ranges
+pub mod Readings
