@@ -4,9 +4,10 @@ use Rattle.std.specs.Prelude.{IfSome}
 use Rattle.css_small.specs.Grammar.{IsNotBuilt}
 use Rattle.cssrun.specs.Request.{Asks, AreRefused}
 use Rattle.cssrun.specs.Answer.{Answer, IsTextAnswer, Refused, Ended, IsAnswer, WordsRefused, Asked, words_refused, read_fault}
-use Rattle.cssrun.specs.Ends.{Change, HasFailed, Got, GotPrefix, Whole, Cut, Starved, Finishes, Written, CutLine, IsText, ShelfFailed, PlainEnds, Answered, Unread, IsWhole, IsCutShort, IsStarved, IsSmooth}
+use Rattle.cssrun.specs.Ends.{Change, HasFailed, Got, GotPrefix, Whole, Cut, Starved, Finishes, Written, CutLine, IsText, ShelfFailed, PlainEnds, Answered, Unread, Unheard, IsWhole, IsCutShort, IsStarved, IsSmooth}
 use Rattle.cssrun.proofs.OneAnswer.{answer_status, text_answer_status, is_built}
 use Rattle.cssrun.proofs.Runs.{IsRunStatus, run_answer_status}
+use Rattle.cssrun.proofs.Words.{asks_nothing}
 
 -- a line that is written whole with a status other than 7
 pub written : (c : Change) (line : List ℕ) (status result : ℕ) → result ≡ status → status < 7 → Finishes c line status result → Got c line
@@ -41,7 +42,7 @@ not_built_answer words text a (Asked file asks (Ended p short spells run)) three
 
 -- a text that isn't of the part that is built is answered with status 3
 not_built_status : (words : List (List ℕ)) (file text : List ℕ) (a : Answer) → Asks words file → IsNotBuilt text → IsAnswer words text a → a.status ≡ 3
-not_built_status words file text a asks not (WordsRefused refused is) = absurd (refused file asks)
+not_built_status words file text a asks not (WordsRefused refused is) = absurd (asks_nothing words file refused asks)
 not_built_status words file text a asks not (Asked other also (Refused not' is)) = ap (λ (x : Answer). x.status) is
 not_built_status words file text a asks not (Asked other also (Ended p short spells run)) = absurd (is_built text p short spells not)
 
@@ -63,6 +64,8 @@ module _ (words : List (List ℕ)) (told : List ℕ → Option (List ℕ)) (befo
   at_two (Answered text is (Starved eight got)) two = absurd (omega arith)
   at_two (Unread failed same (Written six got)) two = absurd (omega arith)
   at_two (Unread failed same (CutLine seven report_failed got)) two = absurd (omega arith)
+  at_two (Unheard same (Written eight got)) two = absurd (omega arith)
+  at_two (Unheard same (CutLine seven report_failed got)) two = absurd (omega arith)
 
   pub at_three : PlainEnds words told before after out report status → status ≡ 3 → (text : List ℕ) × IsText words told text × IsNotBuilt text
   at_three (Answered text is (Whole a one same got_out got)) three = (text, is, not_built_answer words text a one (sym same ∙ three))
@@ -70,6 +73,8 @@ module _ (words : List (List ℕ)) (told : List ℕ → Option (List ℕ)) (befo
   at_three (Answered text is (Starved eight got)) three = absurd (omega arith)
   at_three (Unread failed same (Written six got)) three = absurd (omega arith)
   at_three (Unread failed same (CutLine seven report_failed got)) three = absurd (omega arith)
+  at_three (Unheard same (Written eight got)) three = absurd (omega arith)
+  at_three (Unheard same (CutLine seven report_failed got)) three = absurd (omega arith)
 
   pub at_six : PlainEnds words told before after out report status → status ≡ 6
       → ShelfFailed words before after × (out.after ≡ out.before) × Got report read_fault
@@ -78,6 +83,8 @@ module _ (words : List (List ℕ)) (told : List ℕ → Option (List ℕ)) (befo
   at_six (Answered text is (Starved eight got)) six = absurd (omega arith)
   at_six (Unread failed same (Written six' got)) six = (failed, same, got)
   at_six (Unread failed same (CutLine seven report_failed got)) six = absurd (omega arith)
+  at_six (Unheard same (Written eight got)) six = absurd (omega arith)
+  at_six (Unheard same (CutLine seven report_failed got)) six = absurd (omega arith)
 
   pub at_seven : PlainEnds words told before after out report status → status ≡ 7
       → (HasFailed out ⊎ HasFailed report) × IsCutShort words told before after out report
@@ -85,14 +92,18 @@ module _ (words : List (List ℕ)) (told : List ℕ → Option (List ℕ)) (befo
   at_seven (Answered text is (Cut seven' failed got)) seven = (failed, inl (text, is, got))
   at_seven (Answered text is (Starved eight got)) seven = absurd (omega arith)
   at_seven (Unread failed same (Written six got)) seven = absurd (omega arith)
-  at_seven (Unread failed same (CutLine seven' report_failed got)) seven = (inr report_failed, inr (failed, same, got))
+  at_seven (Unread failed same (CutLine seven' report_failed got)) seven = (inr report_failed, inr (inl (failed, same, got)))
+  at_seven (Unheard same (Written eight got)) seven = absurd (omega arith)
+  at_seven (Unheard same (CutLine seven' report_failed got)) seven = (inr report_failed, inr (inr (same, got)))
 
   pub at_eight : PlainEnds words told before after out report status → status ≡ 8 → IsStarved words told out report
   at_eight (Answered text is (Whole a one same got_out got)) eight = absurd (omega (arith, answer_status words text a one))
   at_eight (Answered text is (Cut seven failed got)) eight = absurd (omega arith)
-  at_eight (Answered text is (Starved eight' got)) eight = (text, is, got)
+  at_eight (Answered text is (Starved eight' got)) eight = inl (text, is, got)
   at_eight (Unread failed same (Written six got)) eight = absurd (omega arith)
   at_eight (Unread failed same (CutLine seven report_failed got)) eight = absurd (omega arith)
+  at_eight (Unheard same (Written eight' got)) eight = inr (same, got)
+  at_eight (Unheard same (CutLine seven report_failed got)) eight = absurd (omega arith)
 
   pub below_six : PlainEnds words told before after out report status → status < 6 → IsWhole words told out report status
   below_six (Answered text is (Whole a one same got_out got)) low =
@@ -101,6 +112,8 @@ module _ (words : List (List ℕ)) (told : List ℕ → Option (List ℕ)) (befo
   below_six (Answered text is (Starved eight got)) low = absurd (omega arith)
   below_six (Unread failed same (Written six got)) low = absurd (omega arith)
   below_six (Unread failed same (CutLine seven report_failed got)) low = absurd (omega arith)
+  below_six (Unheard same (Written eight got)) low = absurd (omega arith)
+  below_six (Unheard same (CutLine seven report_failed got)) low = absurd (omega arith)
 
   pub at_most_eight : PlainEnds words told before after out report status → status ≤ 8
   at_most_eight (Answered text is (Whole a one same got_out got)) = omega (arith, answer_status words text a one)
@@ -108,6 +121,8 @@ module _ (words : List (List ℕ)) (told : List ℕ → Option (List ℕ)) (befo
   at_most_eight (Answered text is (Starved eight got)) = omega arith
   at_most_eight (Unread failed same (Written six got)) = omega arith
   at_most_eight (Unread failed same (CutLine seven report_failed got)) = omega arith
+  at_most_eight (Unheard same (Written eight got)) = omega arith
+  at_most_eight (Unheard same (CutLine seven report_failed got)) = omega arith
 
   pub not_built_only : PlainEnds words told before after out report status → (file text : List ℕ) → Asks words file → told file ≡ Some text → IsNotBuilt text
       → (status ≡ 3) ⊎ (6 ≤ status)
@@ -118,6 +133,8 @@ module _ (words : List (List ℕ)) (told : List ℕ → Option (List ℕ)) (befo
   not_built_only (Answered other is (Starved eight got)) file text asks told_is not = inr (omega arith)
   not_built_only (Unread failed same (Written six got)) file text asks told_is not = inr (omega arith)
   not_built_only (Unread failed same (CutLine seven report_failed got)) file text asks told_is not = inr (omega arith)
+  not_built_only (Unheard same (Written eight got)) file text asks told_is not = inr (omega arith)
+  not_built_only (Unheard same (CutLine seven report_failed got)) file text asks told_is not = inr (omega arith)
 
   pub smooth_status : OnlyOneAnswer → PlainEnds words told before after out report status → IsSmooth words before after out report
       → (file text : List ℕ) (a : Answer) → Asks words file → told file ≡ Some text → IsTextAnswer text a → (status ≡ a.status) ⊎ (status ≡ 8)
@@ -128,3 +145,5 @@ module _ (words : List (List ℕ)) (told : List ℕ → Option (List ℕ)) (befo
   smooth_status only (Answered other is (Cut seven (inr failed) got)) smooth file text a asks told_is answer = absurd (smooth.no_report failed)
   smooth_status only (Answered other is (Starved eight got)) smooth file text a asks told_is answer = inr eight
   smooth_status only (Unread failed same finishes) smooth file text a asks told_is answer = absurd (smooth.no_shelf failed)
+  smooth_status only (Unheard same (Written eight got)) smooth file text a asks told_is answer = inr eight
+  smooth_status only (Unheard same (CutLine seven failed got)) smooth file text a asks told_is answer = absurd (smooth.no_report failed)

@@ -1,12 +1,12 @@
 -- Words and a text have one answer.
-use Rattle.std.proofs.Common.{◌≡◌, ℕ, ◌≤◌, ◌⊎◌, inl, inr, List, [], ◌∷◌, length, sym, ap, ◌∙◌, subst, arith}
+use Rattle.std.proofs.Common.{◌≡◌, ℕ, ◌≤◌, ◌⊎◌, inl, inr, List, [], length, sym, ap, ◌∙◌, subst, arith}
 use Rattle.css_base.specs.declared.static_fault.StaticName.TheVariants as names
 use Rattle.css_small.specs.Tree.{Program}
 use Rattle.css_small.specs.Grammar.{Spells, IsNotBuilt}
-use Rattle.cssrun.specs.Request.{Asks}
 use Rattle.cssrun.specs.Answer.{Answer, IsRunAnswer, IsTextAnswer, Refused, Ended, IsAnswer, WordsRefused, Asked, static_line}
 use Rattle.cssrun.proofs.Fuel.{MoreFuel, EnoughFuel}
 use Rattle.cssrun.proofs.Runs.{one_run_answer, run_answer, IsRunStatus, run_answer_status}
+use Rattle.cssrun.proofs.Words.{asks_nothing}
 
 -- what a text that isn't of the part that is built answers
 abbrev pub not_built : Answer
@@ -20,12 +20,6 @@ is_built text p short spells (inr none) = none p spells
 pub not_built_is : (text : List ℕ) → IsNotBuilt text → (a : Answer) → IsTextAnswer text a → a ≡ not_built
 not_built_is text not a (Refused also is) = is
 not_built_is text not a (Ended p short spells run) = absurd (is_built text p short spells not)
-
--- words name one file
-pub one_file : (words : List (List ℕ)) (file other : List ℕ) → Asks words file → Asks words other → file ≡ other
-one_file words file other one two =
-    let same : one.program ∷ _ ∷ file ∷ [] ≡ two.program ∷ _ ∷ other ∷ [] = sym one.are ∙ two.are in
-    cc
 
 abbrev pub OnlyOneProgram : Type 0
 OnlyOneProgram = (text : List ℕ) (p q : Program) → Spells text p → Spells text q → p ≡ q
@@ -42,8 +36,8 @@ one_text_answer only more_fuel text a b (Ended p short spells run) other = one_r
 -- words and a text have at most one answer
 pub one_answer_lem : OnlyOneProgram → MoreFuel → (words : List (List ℕ)) (text : List ℕ) (a b : Answer) → IsAnswer words text a → IsAnswer words text b → a ≡ b
 one_answer_lem only more_fuel words text a b (WordsRefused refused is) (WordsRefused refused' is') = is ∙ sym is'
-one_answer_lem only more_fuel words text a b (WordsRefused refused is) (Asked file asks answer) = absurd (refused file asks)
-one_answer_lem only more_fuel words text a b (Asked file asks answer) (WordsRefused refused is) = absurd (refused file asks)
+one_answer_lem only more_fuel words text a b (WordsRefused refused is) (Asked file asks answer) = absurd (asks_nothing words file refused asks)
+one_answer_lem only more_fuel words text a b (Asked file asks answer) (WordsRefused refused is) = absurd (asks_nothing words file refused asks)
 one_answer_lem only more_fuel words text a b (Asked file asks answer) (Asked file' asks' answer') = one_text_answer only more_fuel text a b answer answer'
 
 -- a text that spells a program has an answer

@@ -10,7 +10,8 @@ use Rattle.cssrun.specs.Request.{Asks, AreRefused}
 use Rattle.cssrun.specs.Answer.{Answer, IsTextAnswer, Refused, Ended, IsAnswer, WordsRefused, Asked, static_line, words_refused, no_memory}
 use Rattle.cssrun.specs.Ends.{Change, Got, GotPrefix, Ends, Finishes, IsText, PlainEnds, Answered}
 use Rattle.cssrun.proofs.Endings.{Ends-map, ends_answer, ends_no_memory}
-use Rattle.cssrun.proofs.OneAnswer.{one_file, not_built, not_built_is}
+use Rattle.cssrun.proofs.OneAnswer.{not_built, not_built_is}
+use Rattle.cssrun.proofs.Words.{asks_nothing, one_file}
 
 -- too long a text answers what any other such text answers
 long_answer : (text other : List ℕ) → 4194304 < length text → 4194304 < length other → (a : Answer) → IsTextAnswer text a → IsTextAnswer other a
@@ -40,7 +41,7 @@ ends_asked words name text out report status asks =
     Ends-map (IsTextAnswer text) (IsAnswer words text) out report status (λ a is. Asked name asks is) (text_answer words name text asks)
   where
     text_answer : (words : List (List ℕ)) (name text : List ℕ) → Asks words name → (a : Answer) → IsAnswer words text a → IsTextAnswer text a
-    text_answer words name text asks a (WordsRefused refused is) = absurd (refused name asks)
+    text_answer words name text asks a (WordsRefused refused is) = absurd (asks_nothing words name refused asks)
     text_answer words name text asks a (Asked file also is) = is
 
 answered_from : (words : List (List ℕ)) (told : List ℕ → Option (List ℕ)) (before after : List ℕ → ℕ) (out report : Change) (status : ℕ) (name text : List ℕ)
@@ -89,12 +90,12 @@ not_asked = record { out = []; report = words_refused; status = 2 }
 not_asked_is : (words : List (List ℕ)) (text : List ℕ) → AreRefused words → (a : Answer) → IsAnswer words text a → a ≡ not_asked
 unfolding not_asked
 not_asked_is words text refused a (WordsRefused also is) = is
-not_asked_is words text refused a (Asked file asks answer) = absurd (refused file asks)
+not_asked_is words text refused a (Asked file asks answer) = absurd (asks_nothing words file refused asks)
 
 -- where the words are refused, the line for it ends the call
 pub ends_refused : (words : List (List ℕ)) (told : List ℕ → Option (List ℕ)) (before after : List ℕ → ℕ) (out report : Change) (status : ℕ)
     → AreRefused words → Got out [] → Finishes report words_refused 2 status → PlainEnds words told before after out report status
 unfolding not_asked
 ends_refused words told before after out report status refused got finishes =
-    Answered [] (λ file asks. absurd (refused file asks))
+    Answered [] (λ file asks. absurd (asks_nothing words file refused asks))
     (ends_answer (IsAnswer words []) out report status not_asked (WordsRefused refused refl) (not_asked_is words [] refused) got finishes)

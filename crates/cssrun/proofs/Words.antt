@@ -1,14 +1,76 @@
--- What three words ask for.
-use Rattle.std.proofs.Common.{◌≡◌, ℕ, ◌≤◌, ◌<◌, List, [], ◌∷◌, length, map, get_or, arith}
-use Rattle.std.specs.Prelude.{codes}
-use Rattle.cssrun.specs.Request.{Asks, IsFileName}
+-- What words ask for that are read.
+use Rattle.std.proofs.Common.{◌≡◌, ℕ, zero, suc, ◌<◌, List, [], ◌∷◌, sym, ap, ◌∙◌, subst, refl, arith}
+use Rattle.std.specs.Prelude.{Contains}
+use Rattle.std.proofs.lemmas.List.Elements.{All-weaker}
+use Rattle.css_words.specs.declared.built.Built.{Built}
+use Rattle.css_words.specs.declared.command.Command.{Command}
+use Rattle.css_words.specs.declared.command.Command.TheVariants.{Erased}
+use Rattle.css_words.specs.declared.options.OptionName.{OptionName}
+use Rattle.css_words.specs.declared.request.Request.{Request}
+use Rattle.css_words.specs.Items.{Given}
+use Rattle.css_words.specs.Reading.{Reads, IsAllowed, IsOptionOf}
+use Rattle.css_words.specs.Reading as reading
+use Rattle.css_words.proofs.Readings.{one_reading}
+use Rattle.cssrun.specs.Request.{Asks, AreRefused, IsBuilt}
 
--- three words, of which the second is the command and the third a file's name
-pub asks_three : {A : Type 0} (f : A → List ℕ) (xs : List A) (command file : A) → 3 ≤ length xs → length xs < 4
-    → command ≡ get_or xs 1 command → file ≡ get_or xs 2 file → f command ≡ codes "erased" → IsFileName (f file) → Asks (map f xs) (f file)
-asks_three f [] command file least most second third is_command is_name = absurd (omega arith)
-asks_three f (a ∷ []) command file least most second third is_command is_name = absurd (omega arith)
-asks_three f (a ∷ b ∷ []) command file least most second third is_command is_name = absurd (omega arith)
-asks_three f (a ∷ b ∷ c ∷ []) command file least most second third is_command is_name =
-    record { program = f a; are = cc; is_name = is_name }
-asks_three f (a ∷ b ∷ c ∷ x ∷ xs) command file least most second third is_command is_name = absurd (omega arith)
+-- two programs of which as much is built read words alike
+module _ (one other : Built) (is : IsBuilt one) (also : IsBuilt other) where
+  same_option : (command : Command) (option : OptionName) → IsOptionOf one command option → IsOptionOf other command option
+  same_option command option of =
+      record { belongs = of.belongs; is_built = subst (λ os. Contains os option) (is.options ∙ sym also.options) of.is_built }
+
+  same_allowed : (command : Command) (operand : List ℕ) (given : List Given) → IsAllowed one command operand given → IsAllowed other command operand given
+  same_allowed command operand given allowed =
+      record {
+        is_built = subst (λ cs. Contains cs command) (is.commands ∙ sym also.commands) allowed.is_built;
+        options = All-weaker (λ g. IsOptionOf one command g.0) (λ g. IsOptionOf other command g.0) (λ g of. same_option command g.0 of) given allowed.options;
+        once = allowed.once;
+        values = allowed.values;
+        wanted = allowed.wanted;
+        of_command = allowed.of_command;
+      }
+
+  pub same_reading : (words : List (List ℕ)) (request : Request) → Reads one words request → Reads other words request
+  same_reading words request reads =
+      record {
+        program = reads.program;
+        command = reads.command;
+        others = reads.others;
+        given = reads.given;
+        operand = reads.operand;
+        words_are = reads.words_are;
+        says = reads.says;
+        allowed = same_allowed reads.command reads.operand reads.given reads.allowed;
+        asked = reads.asked;
+      }
+
+-- no other command is built
+only_erased : (command : Command) → Contains (Erased ∷ []) command → command ≡ Erased
+only_erased command (zero, below, is) = sym is
+only_erased command (suc k, below, is) = absurd (let first : suc k < 1 = below in omega arith)
+
+-- words with a reading ask for its file
+pub asks_read : (words : List (List ℕ)) (built : Built) → IsBuilt built → (request : Request) → Reads built words request → Asks words request.file
+asks_read words built is request reads =
+    record {
+      built = built;
+      is_built = is;
+      request = request;
+      reads = reads;
+      command_is = ap (λ (r : Request). r.command) reads.asked ∙ only_erased reads.command (subst (λ cs. Contains cs reads.command) is.commands reads.allowed.is_built);
+      file_is = refl;
+    }
+
+-- words without a reading ask for nothing
+pub refused_unread : (words : List (List ℕ)) (built : Built) → IsBuilt built → reading.AreRefused built words → AreRefused words
+refused_unread words built is refused other also request reads = refused request (same_reading other built also is words request reads)
+
+-- words that ask for nothing ask for no file
+pub asks_nothing : (words : List (List ℕ)) (file : List ℕ) → AreRefused words → Asks words file → ⊥
+asks_nothing words file refused asks = refused asks.built asks.is_built asks.request asks.reads
+
+-- words ask for one file
+pub one_file : (words : List (List ℕ)) (file other : List ℕ) → Asks words file → Asks words other → file ≡ other
+one_file words file other one two =
+    let reads = same_reading two.built one.built two.is_built one.is_built words two.request two.reads in
+    sym one.file_is ∙ ap (λ (r : Request). r.file) (one_reading one.built words one.request two.request one.reads reads) ∙ two.file_is

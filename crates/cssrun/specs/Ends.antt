@@ -63,18 +63,23 @@ pub record ShelfFailed (words : List (List ℕ)) (before after : List ℕ → �
 pub data PlainEnds (words : List (List ℕ)) (told : List ℕ → Option (List ℕ)) (before after : List ℕ → ℕ) (out report : Change) (status : ℕ) : Type 0 where
   Answered : (text : List ℕ) → IsText words told text → Ends (IsAnswer words text) out report status → PlainEnds words told before after out report status
   Unread : ShelfFailed words before after → out.after ≡ out.before → Finishes report read_fault 6 status → PlainEnds words told before after out report status
+  Unheard : out.after ≡ out.before → Finishes report no_memory 8 status → PlainEnds words told before after out report status
 
 -- Cut short by a sink: each sink got a prefix of what the answer has, the report perhaps then a prefix of the line for want of
--- memory; or the file couldn't be read, and the report got a prefix of the line for that.
+-- memory; or the file couldn't be read, and the report got a prefix of the line for that; or there was no memory to read the words,
+-- and the report got a prefix of the line for that.
 abbrev pub IsCutShort : List (List ℕ) → (List ℕ → Option (List ℕ)) → (List ℕ → ℕ) → (List ℕ → ℕ) → Change → Change → Type 0
 IsCutShort words told before after out report =
     ((text : List ℕ) × IsText words told text × ((a : Answer) → IsAnswer words text a → GotPrefix out a.out × GotPrefixAndPrefix report a.report no_memory))
     ⊎ (ShelfFailed words before after × (out.after ≡ out.before) × GotPrefix report read_fault)
+    ⊎ ((out.after ≡ out.before) × GotPrefix report no_memory)
 
--- Cut short by want of memory: each sink got a prefix of what the answer has, and the report then the line for it.
+-- Cut short by want of memory: each sink got a prefix of what the answer has, and the report then the line for it; or there was no
+-- memory to read the words, the output got nothing, and the report the line alone.
 abbrev pub IsStarved : List (List ℕ) → (List ℕ → Option (List ℕ)) → Change → Change → Type 0
 IsStarved words told out report =
-    (text : List ℕ) × IsText words told text × ((a : Answer) → IsAnswer words text a → GotPrefix out a.out × GotPrefixAnd report a.report no_memory)
+    ((text : List ℕ) × IsText words told text × ((a : Answer) → IsAnswer words text a → GotPrefix out a.out × GotPrefixAnd report a.report no_memory))
+    ⊎ ((out.after ≡ out.before) × Got report no_memory)
 
 -- The answer, whole.
 pub record IsWhole (words : List (List ℕ)) (told : List ℕ → Option (List ℕ)) (out report : Change) (status : ℕ) : Type 0 where

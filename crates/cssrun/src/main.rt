@@ -1,11 +1,11 @@
 //! `cssrun`: compiles and runs block algorithms in integer C.
 #![tactic(auto)]
 
+mod built;
 mod ending;
 mod finish;
 mod laws;
 mod pending;
-mod request;
 mod run;
 #[cfg(test)]
 mod tests;

@@ -311,14 +311,19 @@ fn expressions_have_values(rt: HostRuntime) -> Result<(), Fail> {
 
 #[test]
 fn words_are_refused(rt: HostRuntime) -> Result<(), Fail> {
-    let rows: [&[&str]; 7] = [
+    let rows: [&[&str]; 12] = [
         &[],
         &["cssrun"],
         &["cssrun", "erased"],
+        &["cssrun", "erased", "--"],
         &["cssrun", "run", "f.c"],
         &["cssrun", "erased", "-x"],
         &["cssrun", "erased", "f.c", "f.c"],
+        &["cssrun", "erased", "f.c", "--", "f.c"],
+        &["cssrun", "erased", "--memory", "3000000", "f.c"],
+        &["cssrun", "erased", "--main-units=1", "f.c"],
         &["cssrun", "Erased", "f.c"],
+        &["cssrun", "f.c", "erased"],
     ];
     for words in rows {
         let called = call(&rt, words, ("f.c", PUT_A.as_bytes()), &NOTHING_FAILS)?;
@@ -327,13 +332,23 @@ fn words_are_refused(rt: HostRuntime) -> Result<(), Fail> {
     Ok(())
 }
 
+/// Word 0 may be any. `-` is a file's name, and so is each word behind `--`.
 #[test]
 fn words_name_the_file(rt: HostRuntime) -> Result<(), Fail> {
-    let file = ("-", PUT_A.as_bytes());
-    let called = call(&rt, &["cssrun", "erased", "-"], file, &NOTHING_FAILS)?;
-    expect(&rt, &called, "a", "result 0\n", 0);
-    let called = call(&rt, &["", "erased", "f.c"], file, &NOTHING_FAILS)?;
-    expect(&rt, &called, "", "read fault\n", 6);
+    let rows: [(&[&str], &str); 6] = [
+        (&["cssrun", "erased", "-"], "-"),
+        (&["cssrun", "erased", "--", "-x"], "-x"),
+        (&["cssrun", "erased", "--", "--"], "--"),
+        (&["cssrun", "erased", "--", "--memory"], "--memory"),
+        (&["cssrun", "erased", "f.c", "--"], "f.c"),
+        (&["", "erased", "f.c"], "f.c"),
+    ];
+    for (words, name) in rows {
+        let called = call(&rt, words, (name, PUT_A.as_bytes()), &NOTHING_FAILS)?;
+        expect(&rt, &called, "a", "result 0\n", 0);
+        let called = call(&rt, words, ("other", PUT_A.as_bytes()), &NOTHING_FAILS)?;
+        expect(&rt, &called, "", "read fault\n", 6);
+    }
     Ok(())
 }
 

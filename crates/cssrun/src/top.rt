@@ -8,15 +8,16 @@ ghost use Rattle.cssrun.specs.Answer.{Answer, IsAnswer, IsTextAnswer, IsRunAnswe
 ghost use Rattle.cssrun.specs.Request.{Asks, AreRefused};
 ghost use Rattle.cssrun.specs.Ends.{Change, change, HasFailed, Got, Ends, Finishes, IsText, IsWhole, IsCutShort, IsStarved, IsSmooth, ShelfFailed, PlainEnds};
 
+use crate::built::BUILT;
 use crate::ending::{ending_status, ending_text, static_text};
 use crate::finish::{NO_MEMORY, READ_FAULT, WORDS_REFUSED, WRITE_FAULT_STATUS, finish};
 use crate::laws::one_answer;
-use crate::request::read_request;
 use crate::run::{Ran, run_main};
 use css_base::{Ending, FrontFault, Limits, StaticFault, Words};
 use css_io::{Shelf, ShelfFault, Sink, Source};
 use css_small::{Program, numbers_fit, one_program, read_program};
 use css_small_code::{enough_fuel, make_code, more_fuel};
+use css_words::{WordsFault, read_words};
 use std::alloc::Global;
 
 /// The most bytes of a program's text.
@@ -42,10 +43,11 @@ pub fn plain_top<S: Shelf, I: Source, O: Sink, R: Sink>(
     out: &mut O,
     report: &mut R,
 ) -> u8
-    // 2 comes exactly where the words are refused, unless the report fails. The report is then the line for it.
+    // 2 comes exactly where the words are refused, unless the report fails or there is no memory to read them. The report is then
+    // the line for it.
     ensures words { result ≡ 2 → AreRefused words.now × Got (change R.written R.faults report.old report.new) words_refused }
     ensures words_only { AreRefused words.now
-        → (result ≡ 2) ⊎ ((result ≡ 7) × HasFailed (change R.written R.faults report.old report.new)) }
+        → (result ≡ 2) ⊎ ((result ≡ 7) × HasFailed (change R.written R.faults report.old report.new)) ⊎ (result ≡ 8) }
 
     // 6 comes only where the shelf's count for the file rose. The report is then the line for it, and `out` got nothing.
     ensures shelf { result ≡ 6 → ShelfFailed words.now (S.faults shelf.old) (S.faults shelf.new) }
@@ -97,12 +99,14 @@ fn answer_words<S: Shelf, O: Sink, R: Sink>(
 ) -> u8
     ensures ends { PlainEnds words.now (S.file shelf.old) (S.faults shelf.old) (S.faults shelf.new)
         (change O.written O.faults out.old out.new) (change R.written R.faults report.old report.new) result }
-    ensures refused { AreRefused words.now → Finishes (change R.written R.faults report.old report.new) words_refused 2 result }
+    ensures refused { AreRefused words.now → Finishes (change R.written R.faults report.old report.new) words_refused 2 result
+        ⊎ Finishes (change R.written R.faults report.old report.new) no_memory 8 result }
     ensures untouched { AreRefused words.now → (shelf.new ≡ shelf.old) × (out.new ≡ out.old) }
 {
-    match read_request(words) {
-        None => finish(report, WORDS_REFUSED, WORDS_REFUSED_STATUS),
-        Some(name) => erased(alloc, name, shelf, out, report),
+    match read_words(alloc, words, &BUILT) {
+        Ok(request) => erased(alloc, request.file.text(), shelf, out, report),
+        Err(WordsFault::Refused) => finish(report, WORDS_REFUSED, WORDS_REFUSED_STATUS),
+        Err(WordsFault::NoMemory) => finish(report, NO_MEMORY, NO_MEMORY_STATUS),
     }
 }
 

@@ -1,9 +1,24 @@
+use Rattle.std.proofs.Common.{refl, ap, Err}
+use Rattle.cssrun.specs.Ends.{Unheard}
 use Rattle.cssrun.proofs.Sinks.{Appends-nothing}
 use Rattle.cssrun.proofs.Texts.{ends_refused}
+use Rattle.cssrun.proofs.Words.{asks_read, refused_unread}
 use Rattle.cssrun.proofs.top.answer_words.Goals as goal
 
-pub returns-in-None-clause-ends : goal.returns-in-None-clause-ends
-returns-in-None-clause-ends g c = ends_refused _ _ _ _ _ _ _ c.in-None.ensures (Appends-nothing _) c.finish.ensures
+pub returns-in-Ok-clause-ends : goal.returns-in-Ok-clause-ends
+returns-in-Ok-clause-ends g c = c.erased.ensures c.args.words.now (rw c.text.ensures (asks_read c.args.words.now _ (record { commands = refl; options = refl }) c.in-Ok.request c.in-Ok.ensures.ok))
 
-pub returns-in-Some-clause-ends : goal.returns-in-Some-clause-ends
-returns-in-Some-clause-ends g c = c.erased.ensures c.args.words.now c.in-Some.ensures
+pub returns-in-Ok-clause-refused : goal.returns-in-Ok-clause-refused
+returns-in-Ok-clause-refused g c = λ refused. absurd (refused _ (record { commands = refl; options = refl }) c.in-Ok.request c.in-Ok.ensures.ok)
+
+pub returns-in-Ok-clause-untouched : goal.returns-in-Ok-clause-untouched
+returns-in-Ok-clause-untouched g c = λ refused. absurd (refused _ (record { commands = refl; options = refl }) c.in-Ok.request c.in-Ok.ensures.ok)
+
+pub returns-in-Err-Refused-clause-ends : goal.returns-in-Err-Refused-clause-ends
+returns-in-Err-Refused-clause-ends g c =
+    ends_refused _ _ _ _ _ _ _
+    (refused_unread c.args.words.now _ (record { commands = refl; options = refl }) (c.in-Err-Refused.ensures.refused (ap (λ e. Err e) c.in-Err-Refused.field-0-is)))
+    (Appends-nothing _) c.finish.ensures
+
+pub returns-in-Err-NoMemory-clause-ends : goal.returns-in-Err-NoMemory-clause-ends
+returns-in-Err-NoMemory-clause-ends g c = Unheard refl c.finish-in-Err-NoMemory.ensures

@@ -1,4 +1,6 @@
+use Rattle.std.proofs.Common.{refl, ap, Err}
 use Rattle.cssrun.specs.Answer.{IsTextAnswer}
+use Rattle.cssrun.specs.Ends.{Unread}
 use Rattle.cssrun.proofs.Endings.{ends_no_memory}
 use Rattle.cssrun.proofs.Sinks.{AppendsPrefix-nothing}
 use Rattle.cssrun.proofs.Texts.{answered, answered_any}
@@ -7,6 +9,9 @@ use Rattle.cssrun.proofs.top.erased.Goals as goal
 pub returns-in-Ok : goal.returns-in-Ok
 returns-in-Ok g c = λ words asks.
     answered words _ _ _ _ _ _ c.args.name.now c.in-Ok.text.items asks c.in-Ok.ensures.ok (rw c.as_slice.ensures.value at c.run_text.ensures)
+
+pub returns-in-Err-Failed : goal.returns-in-Err-Failed
+returns-in-Err-Failed g c = λ words asks. Unread (record { file = c.args.name.now; asks = asks; rose = c.in-Err-Failed.ensures.failed (ap (λ e. Err e) c.in-Err-Failed.field-0-is) }) refl c.finish.ensures
 
 pub returns-in-Err-NoMemory : goal.returns-in-Err-NoMemory
 returns-in-Err-NoMemory g c = λ words asks.
