@@ -1,0 +1,215 @@
+//! The nodes of the added tasks, with queues of those that are ready.
+ghost use Rattle.std.specs.Prelude.{◌≡◌, ℕ, ◌==◌, ◌+◌, ◌<◌, ◌≤◌, Bool, true, false, ◌&&◌, [], ◌∷◌, ◌++◌, length, map, take, IfOk, OnOk, OnErr, IfSome, IfNone, None};
+ghost use Rattle.std.specs.List.{HoldsAt, list_any, list_all};
+ghost use Rattle.std.specs.Prelude.{nat_lt};
+ghost use Rattle.css_graph.specs.Tasks.{is_number_finished, is_waiting};
+ghost use Rattle.css_graph.specs.Nodes.{Agenda as Plan, IsAscending, task_of, numbers_where, ready_high, ready_low, at_number, in_state, one_less_missing, is_below, lower_bound, is_ready};
+ghost use Rattle.css_graph.specs.Chain.{missing_at};
+
+use crate::node::Node;
+use crate::queue::Queue;
+use crate::state::TaskState;
+use css_base::NoMemory;
+use std::alloc::Global;
+use std::marker::Model;
+
+/// The nodes in order of number, the queues of the ready ones, and a bound that ready ones stand below. Contracts see
+/// the nodes, the bound, and for how many nodes there is room.
+#[derive(Drop)]
+pub(crate) struct Agenda {
+    nodes: Vec<Node>,
+    bound: Option<u64>,
+    high: Queue,
+    low: Queue,
+    room: usize,
+}
+
+impl Model for Agenda {
+    ghost use Rattle.css_graph.specs.Nodes.{Agenda as Plan};
+
+    ghost Value = { Plan };
+
+    ghost view = { λ a. record { nodes = a.nodes.items; bound = a.bound; room = a.room } };
+
+    ghost use Rattle.css_graph.specs.Agenda.{IsSound};
+
+    ghost invariant = { IsSound };
+}
+
+/// The place of the node of a number, if there is one.
+fn position(nodes: &[Node], number: u64) -> Option<usize>
+    requires { IsAscending (map (λ x. x.number) nodes.now) }
+    ensures within { IfSome result (λ at. at < length nodes.now) }
+    ensures found { IfSome result (λ at. HoldsAt (λ x. x.number ≡ number) nodes.now at) }
+    ensures absent { IfNone result (list_any (λ x. x.number == number) nodes.now ≡ false) }
+{
+    nodes.binary_search_by_key(&number, |node| node.number).ok()
+}
+
+/// Whether a node waits, misses no producer, and stands below the bound.
+fn node_is_ready(node: &Node, bound: Option<u64>) -> bool
+    ensures { result ≡ is_ready bound node.now }
+{
+    node.state == TaskState::Waiting && node.missing == 0 && number_is_below(node.number, bound)
+}
+
+/// Whether a number stands below the bound.
+fn number_is_below(number: u64, bound: Option<u64>) -> bool
+    ensures { result ≡ is_below bound number }
+{
+    match bound {
+        Some(bound) => number < bound,
+        None => true,
+    }
+}
+
+impl Agenda {
+    /// No nodes. Takes no memory.
+    pub(crate) fn new(alloc: Global) -> Agenda
+        ensures { result ≡ record { nodes = []; bound = None; room = 0 } }
+    {
+        Agenda {
+            nodes: Vec::new(alloc),
+            bound: None,
+            high: Queue::new(alloc),
+            low: Queue::new(alloc),
+            room: 0,
+        }
+    }
+
+    /// How many nodes are ready.
+    pub(crate) fn ready_count(&self) -> usize
+        ensures value { result ≡ length (numbers_where (ready_high self.now.bound) self.now.nodes) + length (numbers_where (ready_low self.now.bound) self.now.nodes) }
+        ensures ordered { IsAscending (map (λ x. x.number) self.now.nodes) }
+    {
+        self.high.len() + self.low.len()
+    }
+
+    /// The numbers of the first so many ready nodes, the high ones first.
+    pub(crate) fn first_ready(&self, alloc: Global, most: usize) -> Result<Vec<u64>, NoMemory>
+        ensures { IfOk result (λ numbers. numbers.items ≡ take most (numbers_where (ready_high self.now.bound) self.now.nodes ++ numbers_where (ready_low self.now.bound) self.now.nodes)) }
+    {
+        let mut numbers = Vec::new(alloc);
+        append_front(&mut numbers, &self.high, most)?;
+        let rest = most - numbers.len();
+        append_front(&mut numbers, &self.low, rest)?;
+        Ok(numbers)
+    }
+
+    /// Whether the task of a number is finished.
+    pub(crate) fn is_finished(&self, number: u64) -> bool
+        ensures { result ≡ is_number_finished (map task_of self.now.nodes) number }
+    {
+        match position(&self.nodes, number) {
+            Some(at) => self.nodes[at].state == TaskState::Finished,
+            None => false,
+        }
+    }
+
+    /// How many producers the task of a number misses.
+    pub(crate) fn missing_at(&self, number: u64) -> usize
+        ensures { result ≡ missing_at self.now.nodes number }
+    {
+        match position(&self.nodes, number) {
+            Some(at) => self.nodes[at].missing,
+            None => 0,
+        }
+    }
+
+    /// Whether the task of a number waits, stands below the bound, and misses a producer.
+    pub(crate) fn may_follow(&self, number: u64) -> bool
+        ensures { result ≡ list_any (λ x. (x.number == number) && (is_waiting x.state && (is_below self.now.bound x.number && nat_lt 0 x.missing))) self.now.nodes }
+    {
+        match position(&self.nodes, number) {
+            Some(at) => {
+                let node = &self.nodes[at];
+                node.state == TaskState::Waiting
+                    && number_is_below(number, self.bound)
+                    && node.missing > 0
+            }
+            None => false,
+        }
+    }
+
+    /// Makes room for a node. `NoMemory` changes nothing.
+    pub(crate) fn reserve(&mut self) -> Result<(), NoMemory>
+        ensures nodes { self.new.nodes ≡ self.old.nodes }
+        ensures bound { self.new.bound ≡ self.old.bound }
+        ensures room { OnOk result (length self.new.nodes < self.new.room) }
+    {
+        self.nodes.reserve(1)?;
+        let room = self.nodes.len() + 1;
+        self.high.reserve(room)?;
+        self.low.reserve(room)?;
+        self.room = room;
+        Ok(())
+    }
+
+    /// Adds the node of greatest number.
+    pub(crate) fn push(&mut self, node: Node)
+        requires room { length self.old.nodes < self.old.room }
+        requires above { list_all (λ x. nat_lt x.number node.number) self.old.nodes ≡ true }
+        ensures nodes { self.new.nodes ≡ self.old.nodes ++ node ∷ [] }
+        ensures bound { self.new.bound ≡ self.old.bound }
+    {
+        let ready = node_is_ready(&node, self.bound);
+        self.high.put(node.number, ready && node.high);
+        self.low.put(node.number, ready && !node.high);
+        self.nodes.push_reserved(node);
+    }
+
+    /// Brings the task of a number to a state.
+    pub(crate) fn set_state(&mut self, number: u64, state: TaskState)
+        ensures nodes { self.new.nodes ≡ at_number number (in_state state) self.old.nodes }
+        ensures bound { self.new.bound ≡ self.old.bound }
+    {
+        if let Some(at) = position(&self.nodes, number) {
+            self.nodes[at].state = state;
+            let ready = node_is_ready(&self.nodes[at], self.bound);
+            let is_high = self.nodes[at].high;
+            self.high.put(number, ready && is_high);
+            self.low.put(number, ready && !is_high);
+        }
+    }
+
+    /// Counts one producer of a number less as missing.
+    pub(crate) fn release(&mut self, number: u64)
+        ensures nodes { self.new.nodes ≡ at_number number one_less_missing self.old.nodes }
+        ensures bound { self.new.bound ≡ self.old.bound }
+    {
+        if let Some(at) = position(&self.nodes, number) {
+            self.nodes[at].missing = self.nodes[at].missing.saturating_sub(1);
+            let ready = node_is_ready(&self.nodes[at], self.bound);
+            let is_high = self.nodes[at].high;
+            self.high.put(number, ready && is_high);
+            self.low.put(number, ready && !is_high);
+        }
+    }
+
+    /// Lowers the bound to a number.
+    pub(crate) fn lower(&mut self, number: u64)
+        ensures nodes { self.new.nodes ≡ self.old.nodes }
+        ensures bound { self.new.bound ≡ lower_bound self.old.bound number }
+    {
+        self.bound = match self.bound {
+            Some(bound) => Some(bound.min(number)),
+            None => Some(number),
+        };
+        self.high.keep_below(number);
+        self.low.keep_below(number);
+    }
+}
+
+/// Appends the first so many numbers of a queue.
+fn append_front(numbers: &mut Vec<u64>, queue: &Queue, most: usize) -> Result<(), NoMemory>
+    ensures { OnOk result (numbers.new.items ≡ numbers.old.items ++ take most queue.now.numbers) }
+{
+    let count = most.min(queue.len());
+    numbers.reserve(count)?;
+    for place in 0..count {
+        if let Some(number) = queue.get(place) {
+            numbers.push(number)?;
+        }
+    }
+    Ok(())
+}
