@@ -1,6 +1,6 @@
 -- Which tasks may be taken, and the bundle of those that are taken together.
 use Rattle.std.specs.Prelude.{◌≡◌, ◌↔◌, ℕ, zero, suc, ◌+◌, ◌-◌, ◌/◌, min, Bool, true, false, ◌&&◌, ◌||◌, not, List, [], ◌∷◌, ◌++◌, length, take, filter, map}
-use Rattle.std.specs.List.{list_any, list_all, AllPairs}
+use Rattle.std.specs.List.{list_any, list_all}
 use Rattle.css_graph.specs.declared.chosen.Chosen.{Chosen}
 use Rattle.css_graph.specs.declared.chosen.Chosen.TheVariants.{Bundle, Nothing}
 use Rattle.css_graph.specs.Tasks.{Task, TaskGraph, is_waiting, is_among, is_number_finished, is_below_stops}
@@ -61,7 +61,8 @@ bundle g most =
 
 -- no two of the numbers are the same
 abbrev pub AreDifferent : List ℕ → Type 0
-AreDifferent = AllPairs (λ (a b : ℕ). a ≡ b → ⊥)
+AreDifferent [] = Unit {0}
+AreDifferent (n ∷ numbers) = (is_among numbers n ≡ false) × AreDifferent numbers
 
 -- what is said of the numbers of a bundle, and of there being none
 abbrev pub IfBundle : Chosen → (List ℕ → Type 0) → Type 0

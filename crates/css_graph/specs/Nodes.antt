@@ -1,5 +1,5 @@
 -- How the graph keeps its tasks: a node for each, and the numbers of the nodes that are ready.
-use Rattle.std.specs.Prelude.{◌≡◌, ℕ, ◌==◌, ◌-◌, nat_lt, Bool, true, false, ◌&&◌, ◌||◌, not, List, [], ◌∷◌, ◌++◌, map, filter, if◌then◌else◌, Option, Some, None, min}
+use Rattle.std.specs.Prelude.{◌≡◌, ℕ, ◌==◌, ◌+◌, ◌-◌, nat_lt, Bool, true, false, ◌&&◌, ◌||◌, not, List, [], ◌∷◌, ◌++◌, map, filter, if◌then◌else◌, Option, Some, None, min}
 use Rattle.std.specs.List.{list_any, list_all}
 use Rattle.css_graph.specs.declared.state.TaskState.{TaskState}
 use Rattle.css_graph.specs.declared.node.Node.{Node}
@@ -8,6 +8,11 @@ use Rattle.css_graph.specs.Tasks.{Task, is_waiting, is_among}
 -- the task that a node keeps
 abbrev pub task_of : Node → Task
 task_of x = record { number = x.number; producers = x.producers.items; high = x.high; state = x.state }
+
+-- how many numbers pass a test
+abbrev pub count_where : (ℕ → Bool) → List ℕ → ℕ
+count_where test [] = 0
+count_where test (n ∷ numbers) = (if test n then 1 else 0) + count_where test numbers
 
 -- each number is below those after it
 abbrev pub IsAscending : List ℕ → Type 0
@@ -74,3 +79,8 @@ above n numbers = filter (λ m. nat_lt n m) numbers
 -- the numbers in order, with or without this one
 abbrev pub put : ℕ → Bool → List ℕ → List ℕ
 put n wanted numbers = below n numbers ++ ((if wanted then n ∷ [] else []) ++ above n numbers)
+
+-- the numbers begin with this one
+abbrev pub begins_with : List ℕ → ℕ → Bool
+begins_with [] n = false
+begins_with (m ∷ _) n = m == n

@@ -2,9 +2,9 @@
 ghost use Rattle.std.specs.Prelude.{◌≡◌, ℕ, ◌==◌, ◌+◌, ◌<◌, ◌≤◌, Bool, true, false, ◌&&◌, [], ◌∷◌, ◌++◌, length, map, take, IfOk, OnOk, OnErr, IfSome, IfNone, None};
 ghost use Rattle.std.specs.List.{HoldsAt, list_any, list_all};
 ghost use Rattle.std.specs.Prelude.{nat_lt};
-ghost use Rattle.css_graph.specs.Tasks.{is_number_finished, is_waiting};
-ghost use Rattle.css_graph.specs.Nodes.{Agenda as Plan, IsAscending, task_of, numbers_where, ready_high, ready_low, at_number, in_state, one_less_missing, is_below, lower_bound, is_ready};
-ghost use Rattle.css_graph.specs.Chain.{missing_at};
+ghost use Rattle.css_graph.specs.Tasks.{is_number_finished};
+ghost use Rattle.css_graph.specs.Nodes.{Agenda as Plan, IsAscending, task_of, numbers_where, ready_high, ready_low, at_number, in_state, one_less_missing, is_below, lower_bound, is_ready, put};
+ghost use Rattle.css_graph.specs.Chain.{missing_at, may_follow};
 
 use crate::node::Node;
 use crate::queue::Queue;
@@ -50,7 +50,28 @@ fn position(nodes: &[Node], number: u64) -> Option<usize>
 fn node_is_ready(node: &Node, bound: Option<u64>) -> bool
     ensures { result ≡ is_ready bound node.now }
 {
-    node.state == TaskState::Waiting && node.missing == 0 && number_is_below(node.number, bound)
+    node.state.is_waiting() && node.missing == 0 && number_is_below(node.number, bound)
+}
+
+/// Whether a node waits, stands below the bound, and misses a producer.
+fn node_may_follow(node: &Node, bound: Option<u64>) -> bool
+    ensures { result ≡ may_follow bound node.now }
+{
+    node.state.is_waiting() && number_is_below(node.number, bound) && node.missing > 0
+}
+
+/// Puts a node's number into the queue that it belongs to, and takes it out of the other.
+fn requeue(node: &Node, bound: Option<u64>, high: &mut Queue, low: &mut Queue)
+    requires high_room { length (put node.now.number (ready_high bound node.now) high.old.numbers) ≤ high.old.room }
+    requires low_room { length (put node.now.number (ready_low bound node.now) low.old.numbers) ≤ low.old.room }
+    ensures high { high.new.numbers ≡ put node.now.number (ready_high bound node.now) high.old.numbers }
+    ensures low { low.new.numbers ≡ put node.now.number (ready_low bound node.now) low.old.numbers }
+    ensures high_room { high.old.room ≤ high.new.room }
+    ensures low_room { low.old.room ≤ low.new.room }
+{
+    let ready = node_is_ready(node, bound);
+    high.put(node.number, ready && node.high);
+    low.put(node.number, ready && !node.high);
 }
 
 /// Whether a number stands below the bound.
@@ -90,9 +111,9 @@ impl Agenda {
         ensures { IfOk result (λ numbers. numbers.items ≡ take most (numbers_where (ready_high self.now.bound) self.now.nodes ++ numbers_where (ready_low self.now.bound) self.now.nodes)) }
     {
         let mut numbers = Vec::new(alloc);
-        append_front(&mut numbers, &self.high, most)?;
-        let rest = most - numbers.len();
-        append_front(&mut numbers, &self.low, rest)?;
+        self.high.append_front(&mut numbers, most)?;
+        let rest = most.saturating_sub(numbers.len());
+        self.low.append_front(&mut numbers, rest)?;
         Ok(numbers)
     }
 
@@ -101,7 +122,7 @@ impl Agenda {
         ensures { result ≡ is_number_finished (map task_of self.now.nodes) number }
     {
         match position(&self.nodes, number) {
-            Some(at) => self.nodes[at].state == TaskState::Finished,
+            Some(at) => self.nodes[at].state.is_finished(),
             None => false,
         }
     }
@@ -118,15 +139,10 @@ impl Agenda {
 
     /// Whether the task of a number waits, stands below the bound, and misses a producer.
     pub(crate) fn may_follow(&self, number: u64) -> bool
-        ensures { result ≡ list_any (λ x. (x.number == number) && (is_waiting x.state && (is_below self.now.bound x.number && nat_lt 0 x.missing))) self.now.nodes }
+        ensures { result ≡ list_any (λ x. (x.number == number) && may_follow self.now.bound x) self.now.nodes }
     {
         match position(&self.nodes, number) {
-            Some(at) => {
-                let node = &self.nodes[at];
-                node.state == TaskState::Waiting
-                    && number_is_below(number, self.bound)
-                    && node.missing > 0
-            }
+            Some(at) => node_may_follow(&self.nodes[at], self.bound),
             None => false,
         }
     }
@@ -152,9 +168,7 @@ impl Agenda {
         ensures nodes { self.new.nodes ≡ self.old.nodes ++ node ∷ [] }
         ensures bound { self.new.bound ≡ self.old.bound }
     {
-        let ready = node_is_ready(&node, self.bound);
-        self.high.put(node.number, ready && node.high);
-        self.low.put(node.number, ready && !node.high);
+        requeue(&node, self.bound, &mut self.high, &mut self.low);
         self.nodes.push_reserved(node);
     }
 
@@ -165,10 +179,7 @@ impl Agenda {
     {
         if let Some(at) = position(&self.nodes, number) {
             self.nodes[at].state = state;
-            let ready = node_is_ready(&self.nodes[at], self.bound);
-            let is_high = self.nodes[at].high;
-            self.high.put(number, ready && is_high);
-            self.low.put(number, ready && !is_high);
+            requeue(&self.nodes[at], self.bound, &mut self.high, &mut self.low);
         }
     }
 
@@ -179,10 +190,7 @@ impl Agenda {
     {
         if let Some(at) = position(&self.nodes, number) {
             self.nodes[at].missing = self.nodes[at].missing.saturating_sub(1);
-            let ready = node_is_ready(&self.nodes[at], self.bound);
-            let is_high = self.nodes[at].high;
-            self.high.put(number, ready && is_high);
-            self.low.put(number, ready && !is_high);
+            requeue(&self.nodes[at], self.bound, &mut self.high, &mut self.low);
         }
     }
 
@@ -198,18 +206,4 @@ impl Agenda {
         self.high.keep_below(number);
         self.low.keep_below(number);
     }
-}
-
-/// Appends the first so many numbers of a queue.
-fn append_front(numbers: &mut Vec<u64>, queue: &Queue, most: usize) -> Result<(), NoMemory>
-    ensures { OnOk result (numbers.new.items ≡ numbers.old.items ++ take most queue.now.numbers) }
-{
-    let count = most.min(queue.len());
-    numbers.reserve(count)?;
-    for place in 0..count {
-        if let Some(number) = queue.get(place) {
-            numbers.push(number)?;
-        }
-    }
-    Ok(())
 }

@@ -1,9 +1,9 @@
 //! The tasks that go on after the beginning of a bundle.
-ghost use Rattle.std.specs.Prelude.{◌≡◌, ◌≢◌, ◌↔◌, if◌then◌else◌, ℕ, ◌-◌, ◌+◌, ◌==◌, ◌||◌, not, true, false, [], length, map, IfOk, OnOk, IsTrue, count_by, ◌++◌};
-ghost use Rattle.std.specs.List.{All};
+ghost use Rattle.std.specs.Prelude.{◌≡◌, ◌≢◌, ◌↔◌, if◌then◌else◌, ℕ, ◌-◌, ◌+◌, ◌==◌, ◌||◌, not, true, false, [], length, map, IfOk, OnOk, IsTrue, ◌++◌};
+ghost use Rattle.std.specs.List.{list_all};
 ghost use Rattle.css_graph.specs.Tasks.{is_number_waiting};
 ghost use Rattle.css_graph.specs.Bundle.{AreDifferent, continued, next_number};
-ghost use Rattle.css_graph.specs.Nodes.{task_of, IsAscending};
+ghost use Rattle.css_graph.specs.Nodes.{count_where, task_of, IsAscending};
 ghost use Rattle.css_graph.specs.Consumers.{consumers_at};
 ghost use Rattle.css_graph.specs.Graph.{IsTied};
 ghost use Rattle.css_graph.specs.Chain.{left_at, is_member, HasCandidates, Knows, missing_at};
@@ -57,7 +57,8 @@ impl Chain {
     {
         let left = self.left_at(agenda, number).saturating_sub(1);
         self.left.insert(number, left)?;
-        let goes_on = agenda.may_follow(number) && !self.members.contains(&number) && left == 0;
+        let is_free = !self.members.contains(&number) && left == 0;
+        let goes_on = agenda.may_follow(number) && is_free;
         self.candidates.reserve_one()?;
         self.candidates.put(number, goes_on);
         Ok(())
@@ -79,7 +80,7 @@ impl Chain {
     /// Makes a task the last member.
     fn append(&mut self, agenda: &Agenda, consumers: &Consumers, number: u64) -> Result<(), NoMemory>
         requires { HasCandidates self.old agenda.now }
-        ensures left { OnOk result ((n : ℕ) → left_at self.new agenda.now.nodes n ≡ left_at self.old agenda.now.nodes n - count_by (λ c. c == n) (consumers_at consumers.now number)) }
+        ensures left { OnOk result ((n : ℕ) → left_at self.new agenda.now.nodes n ≡ left_at self.old agenda.now.nodes n - count_where (λ c. c == n) (consumers_at consumers.now number)) }
         ensures members { OnOk result ((n : ℕ) → is_member self.new n ≡ (is_member self.old n || (number == n))) }
         ensures candidates { OnOk result (HasCandidates self.new agenda.now) }
     {
@@ -94,7 +95,7 @@ impl Chain {
 /// What is known of a bundle.
 fn chain_of(alloc: Global, agenda: &Agenda, consumers: &Consumers, bundle: &[u64]) -> Result<Chain, NoMemory>
     requires tied { IsTied agenda.now consumers.now }
-    requires waiting { All (λ n. is_number_waiting (map task_of agenda.now.nodes) n ≡ true) bundle.now }
+    requires waiting { list_all (is_number_waiting (map task_of agenda.now.nodes)) bundle.now ≡ true }
     requires different { AreDifferent bundle.now }
     ensures { IfOk result (λ chain. Knows chain agenda.now bundle.now) }
 {
@@ -113,16 +114,16 @@ fn append_next(
     chain: &mut Chain,
 ) -> Result<bool, NoMemory>
     requires tied { IsTied agenda.now consumers.now }
-    requires waiting { All (λ n. is_number_waiting (map task_of agenda.now.nodes) n ≡ true) bundle.old.items }
+    requires waiting { list_all (is_number_waiting (map task_of agenda.now.nodes)) bundle.old.items ≡ true }
     requires different { AreDifferent bundle.old.items }
     requires known { Knows chain.old agenda.now bundle.old.items }
     ensures next { OnOk result (bundle.new.items ≡ bundle.old.items ++ next_number (map task_of agenda.now.nodes) bundle.old.items) }
     ensures known { OnOk result (Knows chain.new agenda.now bundle.new.items) }
     ensures ends { IfOk result (λ more. IsTrue more ↔ (next_number (map task_of agenda.now.nodes) bundle.old.items ≢ [])) }
-    ensures waiting { OnOk result (All (λ n. is_number_waiting (map task_of agenda.now.nodes) n ≡ true) bundle.new.items) }
+    ensures waiting { OnOk result (list_all (is_number_waiting (map task_of agenda.now.nodes)) bundle.new.items ≡ true) }
     ensures different { OnOk result (AreDifferent bundle.new.items) }
 {
-    let Some(number) = chain.candidates.pop_first() else {
+    let Some(number) = chain.candidates.get(0) else {
         return Ok(false);
     };
     bundle.push(number)?;
@@ -139,10 +140,10 @@ pub(crate) fn continued(
     most: usize,
 ) -> Result<Vec<u64>, NoMemory>
     requires tied { IsTied agenda.now consumers.now }
-    requires waiting { All (λ n. is_number_waiting (map task_of agenda.now.nodes) n ≡ true) beginning.items }
+    requires waiting { list_all (is_number_waiting (map task_of agenda.now.nodes)) beginning.items ≡ true }
     requires different { AreDifferent beginning.items }
     ensures bundle { IfOk result (λ bundle. bundle.items ≡ continued (map task_of agenda.now.nodes) (most - length beginning.items) beginning.items) }
-    ensures waiting { IfOk result (λ bundle. All (λ n. is_number_waiting (map task_of agenda.now.nodes) n ≡ true) bundle.items) }
+    ensures waiting { IfOk result (λ bundle. list_all (is_number_waiting (map task_of agenda.now.nodes)) bundle.items ≡ true) }
     ensures different { IfOk result (λ bundle. AreDifferent bundle.items) }
 {
     let mut chain = chain_of(alloc, agenda, consumers, &beginning)?;

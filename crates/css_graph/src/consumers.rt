@@ -1,6 +1,7 @@
 //! For each added task, the tasks that need it.
 ghost use Rattle.std.specs.Prelude.{◌≡◌, ℕ, ◌==◌, [], ◌∷◌, ◌++◌, map, true, OnOk, OnErr};
-ghost use Rattle.std.specs.List.{All, list_any};
+ghost use Rattle.std.specs.List.{list_all, list_any};
+ghost use Rattle.std.specs.Prelude.{nat_lt};
 ghost use Rattle.css_graph.specs.Bundle.{AreDifferent};
 ghost use Rattle.css_graph.specs.Nodes.{IsAscending};
 ghost use Rattle.css_graph.specs.Consumers.{consumers_at, with_line, line_of, with_each, HaveRoom};
@@ -99,7 +100,7 @@ impl Consumers {
     /// Adds a task of greatest number to the lists of its producers, with no list of its own yet. `NoMemory` changes
     /// nothing.
     pub(crate) fn add(&mut self, alloc: Global, number: u64, producers: &[u64]) -> Result<(), NoMemory>
-        requires above { All (λ line. line.0 < number) self.old }
+        requires above { list_all (λ line. nat_lt line.0 number) self.old ≡ true }
         requires different { AreDifferent producers.now }
         ensures added { OnOk result (self.new ≡ with_line number producers.now self.old) }
         ensures unchanged { OnErr result (self.new ≡ self.old) }

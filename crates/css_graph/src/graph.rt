@@ -1,6 +1,6 @@
 //! The dependence graph.
-ghost use Rattle.std.specs.Prelude.{◌≡◌, ◌≢◌, ℕ, ◌<◌, ◌≤◌, true, [], length, IsTrue, ◌↔◌, IfOk, OnOk, OnErr, ◌∷◌};
-ghost use Rattle.std.specs.List.{All};
+ghost use Rattle.std.specs.Prelude.{◌≡◌, ◌≢◌, ℕ, nat_lt, ◌≤◌, true, [], length, IsTrue, ◌↔◌, IfOk, OnOk, OnErr, ◌∷◌};
+ghost use Rattle.std.specs.List.{list_all};
 ghost use Rattle.css_graph.specs.Tasks.{TaskGraph, is_number_added, is_number_waiting, is_number_out, with_task, where_come};
 ghost use Rattle.css_graph.specs.Bundle.{takeable, bundle, AreDifferent, IfBundle, IfNothing};
 
@@ -61,8 +61,8 @@ impl Graph {
         producers: &[u64],
         high: bool,
     ) -> Result<(), NoMemory>
-        requires above { All (λ t. t.number < number) self.old.tasks }
-        requires added { All (λ p. is_number_added self.old.tasks p ≡ true) producers.now }
+        requires above { list_all (λ t. nat_lt t.number number) self.old.tasks ≡ true }
+        requires added { list_all (is_number_added self.old.tasks) producers.now ≡ true }
         requires different { AreDifferent producers.now }
         ensures task { OnOk result (self.new ≡ with_task self.old number producers.now high) }
         ensures unchanged { OnErr result (self.new ≡ self.old) }
@@ -93,7 +93,7 @@ impl Graph {
         ensures out { IfOk result (λ c. IfBundle c (λ numbers. self.new ≡ where_come self.old TaskState.Out numbers)) }
         ensures short { IfOk result (λ c. IfBundle c (λ numbers. length numbers ≤ most)) }
         ensures different { IfOk result (λ c. IfBundle c AreDifferent) }
-        ensures were_waiting { IfOk result (λ c. IfBundle c (All (λ n. is_number_waiting self.old.tasks n ≡ true))) }
+        ensures were_waiting { IfOk result (λ c. IfBundle c (λ numbers. list_all (is_number_waiting self.old.tasks) numbers ≡ true)) }
         ensures unchanged { OnErr result (self.new ≡ self.old) }
     {
         let ready = self.agenda.ready_count();
@@ -138,7 +138,7 @@ impl Graph {
 
     /// The tasks of these numbers haven't been begun, and may be taken again. They must be out. Takes no memory.
     pub fn back(&mut self, numbers: &[u64])
-        requires { All (λ n. is_number_out self.old.tasks n ≡ true) numbers.now }
+        requires { list_all (is_number_out self.old.tasks) numbers.now ≡ true }
         ensures { self.new ≡ where_come self.old TaskState.Waiting numbers.now }
     {
         for number in numbers {

@@ -1,7 +1,9 @@
 //! Numbers in order, in reserved room.
 ghost use Rattle.std.specs.Prelude.{◌≡◌, ◌<◌, ◌≤◌, [], length, take, drop, option_copied, slice_get, OnErr, OnOk, IfOk, ◌++◌, not};
 ghost use Rattle.std.specs.Prelude.{filter, nat_lt};
-ghost use Rattle.css_graph.specs.Nodes.{Queue as Numbers, put, below};
+ghost use Rattle.std.specs.List.{insert, remove};
+ghost use Rattle.std.specs.VecDeque.{deque_capacity};
+ghost use Rattle.css_graph.specs.Nodes.{Queue as Numbers, put, below, begins_with};
 
 use css_base::NoMemory;
 use std::alloc::Global;
@@ -70,6 +72,20 @@ impl Queue {
         self.numbers.get(place).copied()
     }
 
+    /// Appends the first so many numbers to others.
+    pub(crate) fn append_front(&self, numbers: &mut Vec<u64>, most: usize) -> Result<(), NoMemory>
+        ensures { OnOk result (numbers.new.items ≡ numbers.old.items ++ take most self.now.numbers) }
+    {
+        let count = most.min(self.numbers.len());
+        numbers.reserve(count)?;
+        for place in 0..count {
+            if let Some(number) = self.numbers.get(place) {
+                numbers.push(*number)?;
+            }
+        }
+        Ok(())
+    }
+
     /// How many numbers stand below this one.
     fn place_of(&self, number: u64) -> usize
         ensures before { take result self.now.numbers ≡ below number self.now.numbers }
@@ -79,6 +95,16 @@ impl Queue {
         self.numbers.partition_point(|m| *m < number)
     }
 
+    /// Whether a number stands at a place.
+    fn stands_at(&self, place: usize, number: u64) -> bool
+        ensures { result ≡ begins_with (drop place self.now.numbers) number }
+    {
+        match self.numbers.get(place) {
+            Some(found) => *found == number,
+            None => false,
+        }
+    }
+
     /// Puts a number in, or takes it out.
     pub(crate) fn put(&mut self, number: u64, wanted: bool)
         requires { length (put number wanted self.old.numbers) ≤ self.old.room }
@@ -86,23 +112,14 @@ impl Queue {
         ensures room { self.old.room ≤ self.new.room }
     {
         let place = self.place_of(number);
-        let found = self.numbers.get(place) == Some(&number);
-        if found && !wanted {
-            self.numbers.remove(place);
+        if self.stands_at(place, number) == wanted {
+            return;
         }
-        if wanted && !found {
-            let inserted = self.numbers.insert(place, number);
-            prove!(inserted.is_ok());
+        if wanted {
+            insert_at(&mut self.numbers, place, number);
+        } else {
+            remove_at(&mut self.numbers, place);
         }
-    }
-
-    /// Takes the first number out, if there is one.
-    pub(crate) fn pop_first(&mut self) -> Option<u64>
-        ensures first { result ≡ slice_get self.old.numbers 0 }
-        ensures rest { self.new.numbers ≡ drop 1 self.old.numbers }
-        ensures room { self.old.room ≤ self.new.room }
-    {
-        self.numbers.pop_front()
     }
 
     /// Takes out the numbers that don't stand below this one.
@@ -112,5 +129,30 @@ impl Queue {
     {
         let place = self.place_of(number);
         self.numbers.truncate(place);
+    }
+}
+
+/// Inserts a number at a place, where there is room.
+fn insert_at(numbers: &mut VecDeque<u64>, place: usize, number: u64)
+    requires within { place ≤ length numbers.old.items }
+    requires room { length numbers.old.items < deque_capacity numbers.old }
+    ensures items { numbers.new.items ≡ insert numbers.old.items place number }
+    ensures capacity { deque_capacity numbers.old ≤ deque_capacity numbers.new }
+{
+    match numbers.insert(place, number) {
+        Ok(()) => {}
+        Err(_) => unreachable!(),
+    }
+}
+
+/// Removes the number at a place.
+fn remove_at(numbers: &mut VecDeque<u64>, place: usize)
+    requires { place < length numbers.old.items }
+    ensures items { numbers.new.items ≡ remove numbers.old.items place }
+    ensures capacity { deque_capacity numbers.new ≡ deque_capacity numbers.old }
+{
+    match numbers.remove(place) {
+        Some(_) => {}
+        None => unreachable!(),
     }
 }

@@ -1,4 +1,6 @@
 //! What has become of a task.
+ghost use Rattle.std.specs.Prelude.{◌≡◌};
+ghost use Rattle.css_graph.specs.Tasks.{is_waiting, is_finished};
 
 /// What has become of an added task.
 #[derive(Clone, Copy, PartialEq, Eq, Debug)]
@@ -11,4 +13,20 @@ pub enum TaskState {
     Finished,
     /// It was taken, and has stopped.
     Stopped,
+}
+
+impl TaskState {
+    /// Whether it is `Waiting`.
+    pub(crate) fn is_waiting(self) -> bool
+        ensures { result ≡ is_waiting self }
+    {
+        matches!(self, TaskState::Waiting)
+    }
+
+    /// Whether it is `Finished`.
+    pub(crate) fn is_finished(self) -> bool
+        ensures { result ≡ is_finished self }
+    {
+        matches!(self, TaskState::Finished)
+    }
 }
