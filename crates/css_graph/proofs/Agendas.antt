@@ -1,5 +1,5 @@
 -- The nodes and the queues.
-use Rattle.std.proofs.Common.{◌≡◌, ℕ, zero, suc, ◌+◌, ◌-◌, ◌<◌, ◌≤◌, Bool, true, false, cond, ◌&&◌, ◌||◌, not, eqb, ltb, List, [], ◌∷◌, ◌++◌, length, get_or, take, map, Option, Some, None, min, slice_get, refl, sym, ap, ◌∙◌, subst, inl, inr, arith}
+use Rattle.std.proofs.Common.{◌≡◌, ℕ, zero, suc, ◌+◌, ◌-◌, ◌<◌, ◌≤◌, Bool, true, false, cond, ◌&&◌, ◌||◌, not, eqb, ltb, List, [], ◌∷◌, ◌++◌, length, get_or, take, set, map, Option, Some, None, min, slice_get, refl, sym, ap, ◌∙◌, subst, inl, inr, get_or-set_same, length-set, arith}
 use Rattle.std.specs.List.{filter, list_any, list_all}
 use Rattle.std.specs.Option.{option_to_list}
 use Rattle.std.proofs.lemmas.Bool.{cases_Bool, eqb-true, or_parts, lt-ltb}
@@ -7,9 +7,9 @@ use Rattle.std.proofs.lemmas.Bool.Decides.{nat_tests}
 use Rattle.css_graph.specs.declared.node.Node.{Node}
 use Rattle.css_graph.specs.declared.state.TaskState.{TaskState}
 use Rattle.css_graph.specs.Tasks.{Task, is_waiting, is_finished, some_task, is_number_finished}
-use Rattle.css_graph.specs.Nodes.{IsAscending, task_of, is_below, lower_bound, is_ready, ready_high, ready_low, numbers_where, below}
+use Rattle.css_graph.specs.Nodes.{IsAscending, task_of, is_below, lower_bound, is_ready, ready_high, ready_low, numbers_where, below, at_number, put}
 use Rattle.css_graph.specs.Chain.{missing_at}
-use Rattle.css_graph.proofs.Keyed.{any_at, none_absent, keys_where, where_below}
+use Rattle.css_graph.proofs.Keyed.{any_at, none_absent, keys_where, where_below, set_changed, where_changed, ascending_changed}
 
 abbrev number_of : Node → ℕ
 number_of x = x.number
@@ -169,3 +169,26 @@ take_append (suc k) (x ∷ xs) ys =
   where
     less : (a b : ℕ) → suc a - suc b ≡ a - b
     less a b = omega arith
+
+-- what a change of one node changes
+pub record Changed (f : Node → Node) (n : ℕ) (xs ys : List Node) (y : Node) : Type 0 where
+  pub nodes : ys ≡ at_number n f xs
+  pub queue : (p : Node → Bool) (q : List ℕ) → q ≡ numbers_where p xs → put y.number (p y) q ≡ numbers_where p ys
+  pub ordered : IsAscending (map number_of ys)
+  pub long : length ys ≡ length xs
+
+pub changes : (f : Node → Node) → ((x : Node) → (f x).number ≡ x.number) → (n : ℕ) (xs ys : List Node) (i : ℕ) (y : Node) → IsAscending (map number_of xs) → i < length xs → ((d : Node) → (get_or xs i d).number ≡ n)
+    → ((d : Node) → ys ≡ set xs i (f (get_or xs i d))) → y ≡ get_or ys i y → Changed f n xs ys y
+changes f same n xs ys i y up l found sets is =
+    let x = get_or xs i y in
+    let nodes : ys ≡ at_number n f xs = sets y ∙ set_changed number_of f n xs i y up l (found y) in
+    let y_is : y ≡ f x = is ∙ ap (λ (zs : List Node). get_or zs i y) (sets y) ∙ get_or-set_same xs i (f x) y l in
+    let number : y.number ≡ n = ap number_of y_is ∙ same x ∙ found y in
+    record {
+      nodes = nodes;
+      queue = λ p q q_is.
+        ap (λ (m : ℕ). put m (p y) q) number ∙ ap (λ (z : Node). put n (p z) q) y_is ∙ ap (put n (p (f x))) q_is
+        ∙ where_changed number_of p f same n xs i y up l (found y) ∙ ap (numbers_where p) (sym nodes);
+      ordered = subst (λ (zs : List Node). IsAscending (map number_of zs)) (sym nodes) (ascending_changed number_of f same n xs up);
+      long = ap length (sets y) ∙ length-set xs i (f x);
+    }

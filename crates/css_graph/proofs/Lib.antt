@@ -6,3 +6,4 @@ pub mod Takeable
 pub mod Following
 pub mod Updates
 pub mod Agendas
+pub mod ConsumerLists

@@ -1,7 +1,8 @@
 //! The nodes of the added tasks, with queues of those that are ready.
 ghost use Rattle.std.specs.Prelude.{◌≡◌, ℕ, ◌==◌, ◌+◌, ◌<◌, ◌≤◌, Bool, true, false, ◌&&◌, [], ◌∷◌, ◌++◌, length, map, take, IfOk, OnOk, OnErr, IfSome, IfNone, None};
 ghost use Rattle.std.specs.List.{HoldsAt, list_any, list_all};
-ghost use Rattle.std.specs.Prelude.{nat_lt};
+ghost use Rattle.std.specs.Prelude.{nat_lt, slice_set, slice_index_or, vec_len, vec_capacity};
+ghost use Rattle.css_graph.specs.declared.node.Node.{Node};
 ghost use Rattle.css_graph.specs.Tasks.{is_number_finished};
 ghost use Rattle.css_graph.specs.Nodes.{Agenda as Plan, IsAscending, task_of, numbers_where, ready_high, ready_low, at_number, in_state, one_less_missing, is_below, lower_bound, is_ready, put};
 ghost use Rattle.css_graph.specs.Chain.{missing_at, may_follow};
@@ -82,6 +83,36 @@ fn number_is_below(number: u64, bound: Option<u64>) -> bool
         Some(bound) => number < bound,
         None => true,
     }
+}
+
+/// The lower of a bound and a number.
+fn lower_of(bound: Option<u64>, number: u64) -> Option<u64>
+    ensures { result ≡ lower_bound bound number }
+{
+    match bound {
+        Some(bound) => Some(bound.min(number)),
+        None => Some(number),
+    }
+}
+
+/// Brings the task at a place to a state.
+fn set_state_at(nodes: &mut Vec<Node>, at: usize, state: TaskState)
+    requires { at < length nodes.old.items }
+    ensures items { (d : Node) → nodes.new.items ≡ slice_set nodes.old.items at (in_state state (slice_index_or nodes.old.items at d)) }
+    ensures len { vec_len nodes.new ≡ vec_len nodes.old }
+    ensures capacity { vec_capacity nodes.new ≡ vec_capacity nodes.old }
+{
+    nodes[at].state = state;
+}
+
+/// Counts one producer of the task at a place less as missing.
+fn release_at(nodes: &mut Vec<Node>, at: usize)
+    requires { at < length nodes.old.items }
+    ensures items { (d : Node) → nodes.new.items ≡ slice_set nodes.old.items at (one_less_missing (slice_index_or nodes.old.items at d)) }
+    ensures len { vec_len nodes.new ≡ vec_len nodes.old }
+    ensures capacity { vec_capacity nodes.new ≡ vec_capacity nodes.old }
+{
+    nodes[at].missing = nodes[at].missing.saturating_sub(1);
 }
 
 impl Agenda {
@@ -177,9 +208,12 @@ impl Agenda {
         ensures nodes { self.new.nodes ≡ at_number number (in_state state) self.old.nodes }
         ensures bound { self.new.bound ≡ self.old.bound }
     {
-        if let Some(at) = position(&self.nodes, number) {
-            self.nodes[at].state = state;
-            requeue(&self.nodes[at], self.bound, &mut self.high, &mut self.low);
+        match position(&self.nodes, number) {
+            Some(at) => {
+                set_state_at(&mut self.nodes, at, state);
+                requeue(&self.nodes[at], self.bound, &mut self.high, &mut self.low);
+            }
+            None => {}
         }
     }
 
@@ -188,9 +222,12 @@ impl Agenda {
         ensures nodes { self.new.nodes ≡ at_number number one_less_missing self.old.nodes }
         ensures bound { self.new.bound ≡ self.old.bound }
     {
-        if let Some(at) = position(&self.nodes, number) {
-            self.nodes[at].missing = self.nodes[at].missing.saturating_sub(1);
-            requeue(&self.nodes[at], self.bound, &mut self.high, &mut self.low);
+        match position(&self.nodes, number) {
+            Some(at) => {
+                release_at(&mut self.nodes, at);
+                requeue(&self.nodes[at], self.bound, &mut self.high, &mut self.low);
+            }
+            None => {}
         }
     }
 
@@ -199,10 +236,7 @@ impl Agenda {
         ensures nodes { self.new.nodes ≡ self.old.nodes }
         ensures bound { self.new.bound ≡ lower_bound self.old.bound number }
     {
-        self.bound = match self.bound {
-            Some(bound) => Some(bound.min(number)),
-            None => Some(number),
-        };
+        self.bound = lower_of(self.bound, number);
         self.high.keep_below(number);
         self.low.keep_below(number);
     }

@@ -3,7 +3,9 @@ ghost use Rattle.std.specs.Prelude.{◌≡◌, ℕ, ◌==◌, [], ◌∷◌, ◌
 ghost use Rattle.std.specs.List.{list_all, list_any};
 ghost use Rattle.std.specs.Prelude.{nat_lt};
 ghost use Rattle.css_graph.specs.Bundle.{AreDifferent};
+ghost use Rattle.css_graph.specs.Tasks.{is_among};
 ghost use Rattle.css_graph.specs.Nodes.{IsAscending};
+ghost use Rattle.std.specs.Prelude.{List};
 ghost use Rattle.css_graph.specs.Consumers.{consumers_at, with_line, line_of, with_each, HaveRoom};
 ghost use Rattle.std.specs.Prelude.{◌<◌, ◌≤◌, length, IfSome, IfNone, false, vec_capacity, vec_len, is_ok};
 ghost use Rattle.std.specs.List.{HoldsAt};
@@ -34,7 +36,9 @@ impl Model for Consumers {
 
     ghost view = { λ c. map line_of c.lists.items };
 
-    ghost use Rattle.css_graph.specs.Nodes.{IsAscending};
+    ghost use Rattle.css_graph.specs.Tasks.{is_among};
+ghost use Rattle.css_graph.specs.Nodes.{IsAscending};
+ghost use Rattle.std.specs.Prelude.{List};
 
     ghost invariant = { λ c. IsAscending (map (λ l. l.number) c.lists.items) };
 }
@@ -49,16 +53,39 @@ fn place_of(lists: &[ConsumerList], number: u64) -> Option<usize>
     lists.binary_search_by_key(&number, |list| list.number).ok()
 }
 
-/// Makes room for one more number in the list of each of these tasks.
+/// Makes room for one more number in the list of a task. `NoMemory` leaves every list as it is.
+fn reserve_at(lists: &mut [ConsumerList], number: u64) -> Result<(), NoMemory>
+    requires { IsAscending (map (λ x. x.number) lists.old) }
+    ensures kept { map line_of lists.new ≡ map line_of lists.old }
+    ensures room { OnOk result ((numbers : List ℕ) → HaveRoom numbers lists.old → HaveRoom (numbers ++ number ∷ []) lists.new) }
+{
+    match place_of(lists, number) {
+        Some(at) => Ok(lists[at].consumers.reserve(1)?),
+        None => Ok(()),
+    }
+}
+
+/// Appends a number to the list of a task, which has room.
+fn append_at(lists: &mut [ConsumerList], number: u64, consumer: u64)
+    requires ordered { IsAscending (map (λ x. x.number) lists.old) }
+    requires room { HaveRoom (number ∷ []) lists.old }
+    ensures lines { map line_of lists.new ≡ with_each consumer (number ∷ []) (map line_of lists.old) }
+    ensures room { (numbers : List ℕ) → is_among numbers number ≡ false → HaveRoom numbers lists.old → HaveRoom numbers lists.new }
+{
+    match place_of(lists, number) {
+        Some(at) => lists[at].consumers.push_reserved(consumer),
+        None => {}
+    }
+}
+
+/// Makes room for one more number in the list of each of these tasks. `NoMemory` leaves every list as it is.
 fn reserve_each(lists: &mut [ConsumerList], numbers: &[u64]) -> Result<(), NoMemory>
     requires { IsAscending (map (λ x. x.number) lists.old) }
     ensures kept { map line_of lists.new ≡ map line_of lists.old }
     ensures room { OnOk result (HaveRoom numbers.now lists.new) }
 {
     for number in numbers {
-        if let Some(at) = place_of(lists, *number) {
-            lists[at].consumers.reserve(1)?;
-        }
+        reserve_at(lists, *number)?;
     }
     Ok(())
 }
@@ -71,9 +98,7 @@ fn append_each(lists: &mut [ConsumerList], numbers: &[u64], consumer: u64)
     ensures { map line_of lists.new ≡ with_each consumer numbers.now (map line_of lists.old) }
 {
     for number in numbers {
-        if let Some(at) = place_of(lists, *number) {
-            lists[at].consumers.push_reserved(consumer);
-        }
+        append_at(lists, *number, consumer);
     }
 }
 

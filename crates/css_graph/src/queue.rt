@@ -40,7 +40,7 @@ impl Queue {
     /// Makes room for so many numbers. `NoMemory` leaves the room as it is.
     pub(crate) fn reserve(&mut self, room: usize) -> Result<(), NoMemory>
         ensures numbers { self.new.numbers ≡ self.old.numbers }
-        ensures room { OnOk result (length self.old.numbers ≤ room → room ≤ self.new.room) }
+        ensures room { OnOk result (room ≤ self.new.room) }
         ensures kept { self.old.room ≤ self.new.room }
     {
         let len = self.numbers.len();
