@@ -49,18 +49,18 @@ line_absent n (l ∷ ls) gone =
     rw parts.0 (line_absent n ls parts.1)
 
 -- a list in the place of one with the same line
-pub same_lines_set : (ls : List ConsumerList) (i : ℕ) (l : ConsumerList) → line_of l ≡ line_of (get_or ls i l) → map line_of (set ls i l) ≡ map line_of ls
-same_lines_set [] i l e = refl
-same_lines_set (m ∷ ls) zero l e = ap (λ (x : ℕ × List ℕ). x ∷ map line_of ls) e
-same_lines_set (m ∷ ls) (suc i) l e = ap (λ (xs : List (ℕ × List ℕ)). line_of m ∷ xs) (same_lines_set ls i l e)
+pub same_lines_set : (ls : List ConsumerList) (i : ℕ) (l d : ConsumerList) → line_of l ≡ line_of (get_or ls i d) → map line_of (set ls i l) ≡ map line_of ls
+same_lines_set [] i l d e = refl
+same_lines_set (m ∷ ls) zero l d e = ap (λ (x : ℕ × List ℕ). x ∷ map line_of ls) e
+same_lines_set (m ∷ ls) (suc i) l d e = ap (λ (xs : List (ℕ × List ℕ)). line_of m ∷ xs) (same_lines_set ls i l d e)
 
 -- a list with room in the place of that of a number
-pub room_more : (n : ℕ) (ls : List ConsumerList) (i : ℕ) (l : ConsumerList) → IsAscending (map list_number ls) → i < length ls → (get_or ls i l).number ≡ n → vec_len l.consumers < vec_capacity l.consumers
+pub room_more : (n : ℕ) (ls : List ConsumerList) (i : ℕ) (l d : ConsumerList) → IsAscending (map list_number ls) → i < length ls → (get_or ls i d).number ≡ n → vec_len l.consumers < vec_capacity l.consumers
     → (ns : List ℕ) → HaveRoom ns ls → HaveRoom (ns ++ n ∷ []) (set ls i l)
-room_more n ls i l up within at room ns all =
-    let changed : set ls i l ≡ map (changed_at list_number n (λ _. l)) ls = set_changed list_number (λ _. l) n ls i l up within at in
+room_more n ls i l d up within at room ns all =
+    let changed : set ls i l ≡ map (changed_at list_number n (λ _. l)) ls = set_changed list_number (λ _. l) n ls i d up within at in
     let P : ConsumerList → Type 0 = λ (k : ConsumerList). is_among (ns ++ n ∷ []) k.number ≡ true → vec_len k.consumers < vec_capacity k.consumers in
-    subst (All P) (sym changed) (All-map P (changed_at list_number n (λ _. l)) ls (λ k d w. each (get_or ls k d) (all k d w)))
+    subst (All P) (sym changed) (All-map P (changed_at list_number n (λ _. l)) ls (λ k e w. each (get_or ls k e) (all k e w)))
   where
     each : (k : ConsumerList) → (is_among ns k.number ≡ true → vec_len k.consumers < vec_capacity k.consumers)
         → is_among (ns ++ n ∷ []) (changed_at list_number n (λ _. l) k).number ≡ true → vec_len (changed_at list_number n (λ _. l) k).consumers < vec_capacity (changed_at list_number n (λ _. l) k).consumers
@@ -84,21 +84,6 @@ room_absent n ls gone ns all k d w h = all k d w (was (is_among ns (get_or ls k 
     other (l ∷ ls) zero d gone w = (or_parts (eqb l.number n) (list_any (λ l. eqb l.number n) ls) gone).0
     other (l ∷ ls) (suc k) d gone w = other ls k d (or_parts (eqb l.number n) (list_any (λ l. eqb l.number n) ls) gone).1 (omega arith)
 
--- another list stays as it is
-pub room_others : (n : ℕ) (ls : List ConsumerList) (i : ℕ) (l : ConsumerList) → IsAscending (map list_number ls) → i < length ls → (get_or ls i l).number ≡ n → l.number ≡ n
-    → (ns : List ℕ) → is_among ns n ≡ false → HaveRoom ns ls → HaveRoom ns (set ls i l)
-room_others n ls i l up within at number ns apart all =
-    let changed : set ls i l ≡ map (changed_at list_number n (λ _. l)) ls = set_changed list_number (λ _. l) n ls i l up within at in
-    let P : ConsumerList → Type 0 = λ (k : ConsumerList). is_among ns k.number ≡ true → vec_len k.consumers < vec_capacity k.consumers in
-    subst (All P) (sym changed) (All-map P (changed_at list_number n (λ _. l)) ls (λ k d w. each (get_or ls k d) (all k d w)))
-  where
-    each : (k : ConsumerList) → (is_among ns k.number ≡ true → vec_len k.consumers < vec_capacity k.consumers)
-        → is_among ns (changed_at list_number n (λ _. l) k).number ≡ true → vec_len (changed_at list_number n (λ _. l) k).consumers < vec_capacity (changed_at list_number n (λ _. l) k).consumers
-    each k has = elim (cases_Bool (eqb k.number n)) [
-      | inl e ↦ rw e (λ h. absurd (false≢true (sym apart ∙ ap (is_among ns) (sym number) ∙ h)))
-      | inr e ↦ rw e has
-    ]
-
 pub room_first : (n : ℕ) (ns : List ℕ) (ls : List ConsumerList) → HaveRoom (n ∷ ns) ls → HaveRoom (n ∷ []) ls
 room_first n ns ls all k d w h = all k d w (more (eqb n (get_or ls k d).number) (is_among ns (get_or ls k d).number) h)
   where
@@ -116,14 +101,6 @@ room_rest n ns ls all k d w h = all k d w (more (eqb n (get_or ls k d).number) (
 pub room_none : (ls : List ConsumerList) → HaveRoom [] ls
 room_none ls k d w h = absurd (false≢true h)
 
--- the room of the list at a place
-pub room_at : (n : ℕ) (ls : List ConsumerList) (i : ℕ) (d : ConsumerList) → i < length ls → (get_or ls i d).number ≡ n → HaveRoom (n ∷ []) ls → vec_len (get_or ls i d).consumers < vec_capacity (get_or ls i d).consumers
-room_at n ls i d within at all = all i d within (here (eqb n (get_or ls i d).number) (eq-eqb n (get_or ls i d).number (sym at)))
-  where
-    here : (b : Bool) → b ≡ true → (b || false) ≡ true
-    here true e = refl
-    here false e = absurd (false≢true e)
-
 -- lines, one of which has changed
 extended : (c n : ℕ) (lines : List (ℕ × List ℕ)) → map (changed_at line_number n (λ line. (line.0, line.1 ++ c ∷ []))) lines ≡ with_each c (n ∷ []) lines
 extended c n [] = refl
@@ -138,15 +115,15 @@ extended c n (line ∷ lines) =
         rw (e, f) (ap (λ (ls : List (ℕ × List ℕ)). (line.0, line.1) ∷ ls) rest)
     ]
 
-pub lines_set : (c n : ℕ) (ls : List ConsumerList) (i : ℕ) (l : ConsumerList) → IsAscending (map list_number ls) → i < length ls → (get_or ls i l).number ≡ n
-    → line_of l ≡ ((get_or ls i l).number, (get_or ls i l).consumers.items ++ c ∷ []) → map line_of (set ls i l) ≡ with_each c (n ∷ []) (map line_of ls)
-lines_set c n ls i l up within at is =
+pub lines_set : (c n : ℕ) (ls : List ConsumerList) (i : ℕ) (l d : ConsumerList) → IsAscending (map list_number ls) → i < length ls → (get_or ls i d).number ≡ n
+    → line_of l ≡ ((get_or ls i d).number, (get_or ls i d).consumers.items ++ c ∷ []) → map line_of (set ls i l) ≡ with_each c (n ∷ []) (map line_of ls)
+lines_set c n ls i l d up within at is =
     let f : ℕ × List ℕ → ℕ × List ℕ = λ (line : ℕ × List ℕ). (line.0, line.1 ++ c ∷ []) in
     let up' : IsAscending (map line_number (map line_of ls)) = subst IsAscending (sym (line_numbers ls)) up in
-    let read : get_or (map line_of ls) i (line_of l) ≡ line_of (get_or ls i l) = got ls i l in
+    let read : get_or (map line_of ls) i (line_of d) ≡ line_of (get_or ls i d) = got ls i d in
     let within' : i < length (map line_of ls) = subst (λ k. i < k) (sym (many ls)) within in
-    let at' : line_number (get_or (map line_of ls) i (line_of l)) ≡ n = ap line_number read ∙ at in
-    sets ls i l ∙ ap (set (map line_of ls) i) (is ∙ ap f (sym read)) ∙ set_changed line_number f n (map line_of ls) i (line_of l) up' within' at' ∙ extended c n (map line_of ls)
+    let at' : line_number (get_or (map line_of ls) i (line_of d)) ≡ n = ap line_number read ∙ at in
+    sets ls i l ∙ ap (set (map line_of ls) i) (is ∙ ap f (sym read)) ∙ set_changed line_number f n (map line_of ls) i (line_of d) up' within' at' ∙ extended c n (map line_of ls)
   where
     got : (ls : List ConsumerList) (i : ℕ) (l : ConsumerList) → get_or (map line_of ls) i (line_of l) ≡ line_of (get_or ls i l)
     got [] i l = refl
@@ -220,3 +197,35 @@ among_later ns h i d l = rw one (at ns h i d l)
     at [] h i d l = absurd (omega arith)
     at (n ∷ ns) h zero d l = h.0
     at (n ∷ ns) h (suc i) d l = at ns h.1 i d (omega arith)
+
+-- what a step of a loop over the producers has room for
+pub room_next : (ls : List ConsumerList) (ns : List ℕ) (i : ℕ) (d : ℕ) → i < length ns → HaveRoom (drop i ns) ls → HaveRoom (drop (i + 1) ns) ls
+room_next ls ns i d l all = rw one (at ns i l all)
+  where
+    one : i + 1 ≡ suc i
+    one = omega arith
+    at : (ns : List ℕ) (i : ℕ) → i < length ns → HaveRoom (drop i ns) ls → HaveRoom (drop (suc i) ns) ls
+    at [] i l all = absurd (omega arith)
+    at (n ∷ ns) zero l all = room_rest n ns ls all
+    at (n ∷ ns) (suc i) l all = at ns i (omega arith) all
+
+-- the numbers stay
+pub each_numbers : (c : ℕ) (ns : List ℕ) (lines : List (ℕ × List ℕ)) → map line_number (with_each c ns lines) ≡ map line_number lines
+each_numbers c ns [] = refl
+each_numbers c ns (line ∷ lines) = ap (λ (ms : List ℕ). line.0 ∷ ms) (each_numbers c ns lines)
+
+pub numbers_stay : (c : ℕ) (ns : List ℕ) (ls ms : List ConsumerList) → map line_of ms ≡ with_each c ns (map line_of ls) → map list_number ms ≡ map list_number ls
+numbers_stay c ns ls ms e = sym (line_numbers ms) ∙ ap (map line_number) e ∙ each_numbers c ns (map line_of ls) ∙ line_numbers ls
+
+all_lists : (q : ℕ → Bool) (ls : List ConsumerList) → list_all (λ l. q l.number) ls ≡ list_all q (map list_number ls)
+all_lists q [] = refl
+all_lists q (l ∷ ls) = ap (λ b. q l.number && b) (all_lists q ls)
+
+all_lines : (q : ℕ → Bool) (lines : List (ℕ × List ℕ)) → list_all (λ line. q line.0) lines ≡ list_all q (map line_number lines)
+all_lines q [] = refl
+all_lines q (line ∷ lines) = ap (λ b. q line.0 && b) (all_lines q lines)
+
+-- what stands below a number stays there
+pub below_stays : (n : ℕ) (ls ms : List ConsumerList) → map list_number ms ≡ map list_number ls → list_all (λ line. ltb line.0 n) (map line_of ls) ≡ true → list_all (λ l. ltb l.number n) ms ≡ true
+below_stays n ls ms e h =
+    all_lists (λ m. ltb m n) ms ∙ ap (list_all (λ m. ltb m n)) (e ∙ sym (line_numbers ls)) ∙ sym (all_lines (λ m. ltb m n) (map line_of ls)) ∙ h

@@ -7,3 +7,5 @@ pub mod Following
 pub mod Updates
 pub mod Agendas
 pub mod ConsumerLists
+pub mod Chains
+pub mod Graphs

@@ -9,7 +9,7 @@ use Rattle.css_graph.specs.declared.node.Node.{Node}
 use Rattle.css_graph.specs.declared.state.TaskState.{TaskState}
 use Rattle.css_graph.specs.declared.state.TaskState.TheVariants.{Waiting, Out, Finished, Stopped}
 use Rattle.css_graph.specs.Tasks.{Task, is_out, is_waiting, is_finished, is_stopped, is_among, is_number_added, is_number_out, is_number_finished, is_below_stops, come_to}
-use Rattle.css_graph.specs.Nodes.{Agenda, IsAscending, task_of, is_below, lower_bound, count_where, at_number, in_state, one_less_missing}
+use Rattle.css_graph.specs.Nodes.{Agenda, IsAscending, task_of, is_below, lower_bound, count_where, at_number, in_state, one_less_missing, in_state_by, less_by}
 use Rattle.css_graph.specs.Consumers.{consumers_of, lines_of, consumers_at, with_line}
 use Rattle.css_graph.specs.Graph.{IsCounted, IsTied}
 use Rattle.css_graph.proofs.Counts.{eqb_sym, among_push, count_push, one_finished}
@@ -19,18 +19,6 @@ use Rattle.css_graph.proofs.Following.{consumer_counts, lines_at}
 
 abbrev number_of : Node → ℕ
 number_of x = x.number
-
--- a node, where its state has changed if its number is in the list
-abbrev pub in_state_by : TaskState → List ℕ → Node → Node
-in_state_by s ns x = record {
-  number = x.number; producers = x.producers; high = x.high; state = cond (is_among ns x.number) s x.state; missing = x.missing;
-}
-
--- a node that misses one less for each time that its number is in the list
-abbrev pub less_by : List ℕ → Node → Node
-less_by cs x = record {
-  number = x.number; producers = x.producers; high = x.high; state = x.state; missing = x.missing - count_where (λ c. eqb c x.number) cs;
-}
 
 map_twice : {X Y Z : Type 0} (f : Y → Z) (g : X → Y) (h : X → Z) → ((x : X) → f (g x) ≡ h x) → (xs : List X) → map f (map g xs) ≡ map h xs
 map_twice f g h same [] = refl

@@ -64,6 +64,18 @@ one_less_missing x = record {
   number = x.number; producers = x.producers; high = x.high; state = x.state; missing = x.missing - 1;
 }
 
+-- a node, where its state has changed if its number is in the list
+abbrev pub in_state_by : TaskState → List ℕ → Node → Node
+in_state_by state numbers x = record {
+  number = x.number; producers = x.producers; high = x.high; state = (if is_among numbers x.number then state else x.state); missing = x.missing;
+}
+
+-- a node that misses one less for each time that its number is in the list
+abbrev pub less_by : List ℕ → Node → Node
+less_by numbers x = record {
+  number = x.number; producers = x.producers; high = x.high; state = x.state; missing = x.missing - count_where (λ c. c == x.number) numbers;
+}
+
 -- numbers in order, and for how many there is room
 pub record Queue : Type 0 where
   pub numbers : List ℕ

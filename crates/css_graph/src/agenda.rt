@@ -4,7 +4,7 @@ ghost use Rattle.std.specs.List.{HoldsAt, list_any, list_all};
 ghost use Rattle.std.specs.Prelude.{nat_lt, slice_set, slice_index_or, vec_len, vec_capacity};
 ghost use Rattle.css_graph.specs.declared.node.Node.{Node};
 ghost use Rattle.css_graph.specs.Tasks.{is_number_finished};
-ghost use Rattle.css_graph.specs.Nodes.{Agenda as Plan, IsAscending, task_of, numbers_where, ready_high, ready_low, at_number, in_state, one_less_missing, is_below, lower_bound, is_ready, put};
+ghost use Rattle.css_graph.specs.Nodes.{Agenda as Plan, IsAscending, task_of, numbers_where, ready_high, ready_low, at_number, in_state, one_less_missing, in_state_by, less_by, is_below, lower_bound, is_ready, put};
 ghost use Rattle.css_graph.specs.Chain.{missing_at, may_follow};
 
 use crate::node::Node;
@@ -203,8 +203,28 @@ impl Agenda {
         self.nodes.push_reserved(node);
     }
 
+    /// Brings the tasks of these numbers to a state.
+    pub(crate) fn set_states(&mut self, numbers: &[u64], state: TaskState)
+        ensures nodes { self.new.nodes ≡ map (in_state_by state numbers.now) self.old.nodes }
+        ensures bound { self.new.bound ≡ self.old.bound }
+    {
+        for number in numbers {
+            self.set_state(*number, state);
+        }
+    }
+
+    /// Counts one producer less as missing of the tasks of these numbers, once for each time that a number is there.
+    pub(crate) fn release_each(&mut self, numbers: &[u64])
+        ensures nodes { self.new.nodes ≡ map (less_by numbers.now) self.old.nodes }
+        ensures bound { self.new.bound ≡ self.old.bound }
+    {
+        for number in numbers {
+            self.release(*number);
+        }
+    }
+
     /// Brings the task of a number to a state.
-    pub(crate) fn set_state(&mut self, number: u64, state: TaskState)
+    fn set_state(&mut self, number: u64, state: TaskState)
         ensures nodes { self.new.nodes ≡ at_number number (in_state state) self.old.nodes }
         ensures bound { self.new.bound ≡ self.old.bound }
     {
@@ -218,7 +238,7 @@ impl Agenda {
     }
 
     /// Counts one producer of a number less as missing.
-    pub(crate) fn release(&mut self, number: u64)
+    fn release(&mut self, number: u64)
         ensures nodes { self.new.nodes ≡ at_number number one_less_missing self.old.nodes }
         ensures bound { self.new.bound ≡ self.old.bound }
     {

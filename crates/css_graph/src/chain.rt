@@ -1,12 +1,14 @@
 //! The tasks that go on after the beginning of a bundle.
-ghost use Rattle.std.specs.Prelude.{◌≡◌, ◌≢◌, ◌↔◌, if◌then◌else◌, ℕ, ◌-◌, ◌+◌, ◌==◌, ◌||◌, not, true, false, [], length, map, IfOk, OnOk, IsTrue, ◌++◌};
-ghost use Rattle.std.specs.List.{list_all};
+ghost use Rattle.std.specs.Prelude.{◌≡◌, ◌≢◌, ◌↔◌, if◌then◌else◌, ℕ, ◌-◌, ◌+◌, ◌==◌, ◌||◌, ◌&&◌, not, true, false, [], length, map, IfOk, OnOk, IsTrue, ◌++◌};
+ghost use Rattle.std.specs.List.{list_all, list_any};
+ghost use Rattle.std.specs.Prelude.{List};
+ghost use Rattle.css_graph.specs.declared.node.Node.{Node};
 ghost use Rattle.css_graph.specs.Tasks.{is_number_waiting};
 ghost use Rattle.css_graph.specs.Bundle.{AreDifferent, continued, next_number};
 ghost use Rattle.css_graph.specs.Nodes.{count_where, task_of, IsAscending};
 ghost use Rattle.css_graph.specs.Consumers.{consumers_at};
 ghost use Rattle.css_graph.specs.Graph.{IsTied};
-ghost use Rattle.css_graph.specs.Chain.{left_at, is_member, HasCandidates, Knows, missing_at};
+ghost use Rattle.css_graph.specs.Chain.{left_at, is_member, HasCandidates, Knows, may_follow};
 
 use crate::agenda::Agenda;
 use crate::consumers::Consumers;
@@ -48,38 +50,74 @@ impl Chain {
         }
     }
 
-    /// A producer of the task of this number has become a member.
-    fn meet(&mut self, agenda: &Agenda, number: u64) -> Result<(), NoMemory>
-        requires { HasCandidates self.old agenda.now }
+    /// Counts one producer of the task of a number less as missing.
+    fn lessen(&mut self, agenda: &Agenda, number: u64) -> Result<(), NoMemory>
         ensures left { OnOk result ((n : ℕ) → left_at self.new agenda.now.nodes n ≡ left_at self.old agenda.now.nodes n - (if number == n then 1 else 0)) }
-        ensures members { OnOk result (self.new.members ≡ self.old.members) }
-        ensures candidates { OnOk result (HasCandidates self.new agenda.now) }
+        ensures members { OnOk result ((n : ℕ) → is_member self.new n ≡ is_member self.old n) }
+        ensures candidates { OnOk result (self.new.candidates ≡ self.old.candidates) }
     {
         let left = self.left_at(agenda, number).saturating_sub(1);
         self.left.insert(number, left)?;
-        let is_free = !self.members.contains(&number) && left == 0;
-        let goes_on = agenda.may_follow(number) && is_free;
+        Ok(())
+    }
+
+    /// Whether the task of a number goes on, where so many producers are left to it.
+    fn goes_on(&self, agenda: &Agenda, number: u64, left: usize) -> bool
+        ensures { result ≡ (list_any (λ x. (x.number == number) && may_follow agenda.now.bound x) agenda.now.nodes && (not (is_member self.now number) && (left == 0))) }
+    {
+        agenda.may_follow(number) && (!self.members.contains(&number) && left == 0)
+    }
+
+    /// A producer of the task of this number has become a member.
+    fn meet(&mut self, agenda: &Agenda, number: u64) -> Result<(), NoMemory>
+        requires ordered { IsAscending (map (λ x. x.number) agenda.now.nodes) }
+        requires candidates { HasCandidates self.old agenda.now }
+        ensures left { OnOk result ((n : ℕ) → left_at self.new agenda.now.nodes n ≡ left_at self.old agenda.now.nodes n - (if number == n then 1 else 0)) }
+        ensures members { OnOk result ((n : ℕ) → is_member self.new n ≡ is_member self.old n) }
+        ensures candidates { OnOk result (HasCandidates self.new agenda.now) }
+    {
+        self.lessen(agenda, number)?;
+        let left = self.left_at(agenda, number);
+        let goes_on = self.goes_on(agenda, number, left);
         self.candidates.reserve_one()?;
         self.candidates.put(number, goes_on);
         Ok(())
     }
 
+    /// Makes a number a member.
+    fn enter(&mut self, number: u64) -> Result<(), NoMemory>
+        ensures left { OnOk result ((nodes : List Node) (n : ℕ) → left_at self.new nodes n ≡ left_at self.old nodes n) }
+        ensures members { OnOk result ((n : ℕ) → is_member self.new n ≡ (is_member self.old n || (number == n))) }
+        ensures candidates { OnOk result (self.new.candidates ≡ self.old.candidates) }
+    {
+        self.members.insert(number)?;
+        Ok(())
+    }
+
     /// Makes a number a member that isn't a candidate.
     fn admit(&mut self, agenda: &Agenda, number: u64) -> Result<(), NoMemory>
-        requires { HasCandidates self.old agenda.now }
-        ensures left { OnOk result (self.new.left ≡ self.old.left) }
+        requires ordered { IsAscending (map (λ x. x.number) agenda.now.nodes) }
+        requires candidates { HasCandidates self.old agenda.now }
+        ensures left { OnOk result ((n : ℕ) → left_at self.new agenda.now.nodes n ≡ left_at self.old agenda.now.nodes n) }
         ensures members { OnOk result ((n : ℕ) → is_member self.new n ≡ (is_member self.old n || (number == n))) }
         ensures candidates { OnOk result (HasCandidates self.new agenda.now) }
     {
         let _ = agenda;
-        self.members.insert(number)?;
+        self.enter(number)?;
+        self.candidates.reserve_one()?;
         self.candidates.put(number, false);
         Ok(())
     }
 
     /// Makes a task the last member.
-    fn append(&mut self, agenda: &Agenda, consumers: &Consumers, number: u64) -> Result<(), NoMemory>
-        requires { HasCandidates self.old agenda.now }
+    fn append(
+        &mut self,
+        agenda: &Agenda,
+        consumers: &Consumers,
+        number: u64,
+    ) -> Result<(), NoMemory>
+        requires ordered { IsAscending (map (λ x. x.number) agenda.now.nodes) }
+        requires candidates { HasCandidates self.old agenda.now }
         ensures left { OnOk result ((n : ℕ) → left_at self.new agenda.now.nodes n ≡ left_at self.old agenda.now.nodes n - count_where (λ c. c == n) (consumers_at consumers.now number)) }
         ensures members { OnOk result ((n : ℕ) → is_member self.new n ≡ (is_member self.old n || (number == n))) }
         ensures candidates { OnOk result (HasCandidates self.new agenda.now) }
@@ -149,7 +187,7 @@ pub(crate) fn continued(
     let mut chain = chain_of(alloc, agenda, consumers, &beginning)?;
     let mut bundle = beginning;
     let room = most.saturating_sub(bundle.len());
-    for _step in 0..room {
+    for step in 0..room {
         if !append_next(agenda, consumers, &mut bundle, &mut chain)? {
             break;
         }

@@ -103,9 +103,7 @@ impl Graph {
         let share = ready.div_ceil(self.workers as usize).min(most as usize);
         let beginning = self.agenda.first_ready(alloc, share)?;
         let bundle = chain::continued(alloc, &self.agenda, &self.consumers, beginning, most as usize)?;
-        for number in &bundle {
-            self.agenda.set_state(*number, TaskState::Out);
-        }
+        self.agenda.set_states(&bundle, TaskState::Out);
         Ok(Chosen::Bundle(bundle))
     }
 
@@ -121,10 +119,8 @@ impl Graph {
         requires { is_number_out self.old.tasks number ≡ true }
         ensures { self.new ≡ where_come self.old TaskState.Finished (number ∷ []) }
     {
-        self.agenda.set_state(number, TaskState::Finished);
-        for consumer in self.consumers.of(number) {
-            self.agenda.release(*consumer);
-        }
+        self.agenda.set_states(&[number], TaskState::Finished);
+        self.agenda.release_each(self.consumers.of(number));
     }
 
     /// The task of this number has stopped. It must be out. Takes no memory.
@@ -132,7 +128,7 @@ impl Graph {
         requires { is_number_out self.old.tasks number ≡ true }
         ensures { self.new ≡ where_come self.old TaskState.Stopped (number ∷ []) }
     {
-        self.agenda.set_state(number, TaskState::Stopped);
+        self.agenda.set_states(&[number], TaskState::Stopped);
         self.agenda.lower(number);
     }
 
@@ -141,8 +137,6 @@ impl Graph {
         requires { list_all (is_number_out self.old.tasks) numbers.now ≡ true }
         ensures { self.new ≡ where_come self.old TaskState.Waiting numbers.now }
     {
-        for number in numbers {
-            self.agenda.set_state(*number, TaskState::Waiting);
-        }
+        self.agenda.set_states(numbers, TaskState::Waiting);
     }
 }

@@ -12,7 +12,7 @@ invariant_of-self-2 c =
       high = c.in_ok-reserve-2.ensures.numbers ∙ c.self.invariant.high ∙ ap (numbers_where (ready_high c.self.inside.bound)) (sym e);
       low = c.in_ok-reserve-3.ensures.numbers ∙ c.self.invariant.low ∙ ap (numbers_where (ready_low c.self.inside.bound)) (sym e);
       within = search rules;
-      nodes_room = omega arith;
+      nodes_room = omega (arith, c.in_ok-reserve.ensures.ok, c.in_ok-reserve.ensures.len, c.len-room.ensures);
       high_room = omega (arith, c.in_ok-reserve-2.ensures.room);
       low_room = omega (arith, c.in_ok-reserve-3.ensures.room);
     }
