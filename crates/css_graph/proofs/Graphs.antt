@@ -31,6 +31,12 @@ module _ (plan : Agenda) (lines : List (ℕ × List ℕ)) (tied : IsTied plan li
       tied_at lines after (map (in_state_by s ns) plan.nodes) plan.bound nodes bound
       (tied_state plan.nodes plan.bound plan.room lines tied after.room s test ns unfinished unstopped w v (all_pass test ns (map task_of plan.nodes) ascending all))
 
+  -- the same nodes and bound, whatever the room
+  pub same_tied : (after : Agenda) → after.nodes ≡ plan.nodes → after.bound ≡ plan.bound → IsTied after lines
+  same_tied after nodes bound =
+      tied_at lines after plan.nodes plan.bound nodes bound
+      (record { ordered = tied.ordered; counted = tied.counted; bound = tied.bound; consumers = tied.consumers })
+
   pub back_tied : (after : Agenda) (ns : List ℕ) → list_all (is_number_out (map task_of plan.nodes)) ns ≡ true
       → after.nodes ≡ map (in_state_by Waiting ns) plan.nodes → after.bound ≡ plan.bound → IsTied after lines
   unfolding is_number_out

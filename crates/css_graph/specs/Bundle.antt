@@ -1,6 +1,7 @@
 -- Which tasks may be taken, and the bundle of those that are taken together.
 use Rattle.std.specs.Prelude.{◌≡◌, ◌↔◌, ℕ, zero, suc, ◌+◌, ◌-◌, ◌/◌, min, Bool, true, false, ◌&&◌, ◌||◌, not, List, [], ◌∷◌, ◌++◌, length, take, filter, map}
 use Rattle.std.specs.List.{list_any, list_all}
+use Rattle.std.specs.Int.{div_ceil}
 use Rattle.css_graph.specs.declared.chosen.Chosen.{Chosen}
 use Rattle.css_graph.specs.declared.chosen.Chosen.TheVariants.{Bundle, Nothing}
 use Rattle.css_graph.specs.Tasks.{Task, TaskGraph, is_waiting, is_among, is_number_finished, is_below_stops}
@@ -21,13 +22,9 @@ in_turn tasks =
     map (λ t. t.number) (filter (λ t. t.high) (takeable tasks))
     ++ map (λ t. t.number) (filter (λ t. not t.high) (takeable tasks))
 
--- the quotient, rounded up
-abbrev pub ceiling : ℕ → ℕ → ℕ
-ceiling r workers = (r + (workers - 1)) / workers
-
--- what a bundle begins with: a worker's share of the tasks that may be taken
+-- what a bundle begins with: a worker's share, rounded up, of the tasks that may be taken
 unfoldable pub beginning : TaskGraph → ℕ → List ℕ
-beginning g most = take (min most (ceiling (length (takeable g.tasks)) g.workers)) (in_turn g.tasks)
+beginning g most = take (min most (div_ceil (length (takeable g.tasks)) g.workers)) (in_turn g.tasks)
 
 -- a task goes on after a bundle where it is neither out nor finished nor in the bundle, stands below
 -- every stopped number, and each of its producers is finished or in the bundle, at least one of them
