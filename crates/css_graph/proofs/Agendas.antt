@@ -44,6 +44,7 @@ missing_read n (y ∷ xs) (suc i) x up l at is =
   where
     apart : (a b : ℕ) → a < b → eqb a b ≡ false
     apart a b l = grind (arith, nat_tests)
+
     above : (m : ℕ) (xs : List Node) (i : ℕ) (d : Node) → list_all (ltb m) (map number_of xs) ≡ true → i < length xs → m < (get_or xs i d).number
     above m [] i d h l = absurd (omega arith)
     above m (x ∷ xs) zero d h l = grind (arith, nat_tests)
@@ -108,11 +109,11 @@ same_filter p q same (x ∷ xs) =
     let rest = same_filter p q same xs in
     elim (cases_Bool (q x)) [
       | inl t ↦
-        let t' : p x ≡ true = e ∙ t in
-        rw (t', t) (ap (λ l. x.number ∷ l) rest)
+          let t' : p x ≡ true = e ∙ t in
+          rw (t', t) (ap (λ l. x.number ∷ l) rest)
       | inr f ↦
-        let f' : p x ≡ false = e ∙ f in
-        rw (f', f) rest
+          let f' : p x ≡ false = e ∙ f in
+          rw (f', f) rest
     ]
 
 pub high_lowered : (bound : Option ℕ) (n : ℕ) (xs : List Node) → below n (numbers_where (ready_high bound) xs) ≡ numbers_where (ready_high (lower_bound bound n)) xs
@@ -120,14 +121,14 @@ high_lowered bound n xs =
     where_below number_of (ready_high bound) n xs
     ∙ same_filter (λ x. ready_high bound x && ltb x.number n) (ready_high (lower_bound bound n))
     (λ x. regrouped (is_waiting x.state) (eqb x.missing 0) (is_below bound x.number) x.high (ltb x.number n)
-        ∙ ap (λ b. (is_waiting x.state && (eqb x.missing 0 && b)) && x.high) (sym (lowered bound n x.number))) xs
+    ∙ ap (λ b. (is_waiting x.state && (eqb x.missing 0 && b)) && x.high) (sym (lowered bound n x.number))) xs
 
 pub low_lowered : (bound : Option ℕ) (n : ℕ) (xs : List Node) → below n (numbers_where (ready_low bound) xs) ≡ numbers_where (ready_low (lower_bound bound n)) xs
 low_lowered bound n xs =
     where_below number_of (ready_low bound) n xs
     ∙ same_filter (λ x. ready_low bound x && ltb x.number n) (ready_low (lower_bound bound n))
     (λ x. regrouped (is_waiting x.state) (eqb x.missing 0) (is_below bound x.number) (not x.high) (ltb x.number n)
-        ∙ ap (λ b. (is_waiting x.state && (eqb x.missing 0 && b)) && not x.high) (sym (lowered bound n x.number))) xs
+    ∙ ap (λ b. (is_waiting x.state && (eqb x.missing 0 && b)) && not x.high) (sym (lowered bound n x.number))) xs
 
 -- one more at the front
 pub front_more : (xs : List ℕ) (i : ℕ) (o : Option ℕ) → o ≡ slice_get xs i → take (i + 1) xs ≡ take i xs ++ option_to_list o
@@ -135,6 +136,7 @@ front_more xs i o e = rw (e, plus_one i) (at xs i)
   where
     plus_one : (k : ℕ) → k + 1 ≡ suc k
     plus_one k = omega arith
+
     at : (xs : List ℕ) (i : ℕ) → take (suc i) xs ≡ take i xs ++ option_to_list (slice_get xs i)
     at [] zero = refl
     at [] (suc i) = refl
@@ -187,8 +189,8 @@ changes f same n xs ys i y up l found sets is =
     record {
       nodes = nodes;
       queue = λ p q q_is.
-        ap (λ (m : ℕ). put m (p y) q) number ∙ ap (λ (z : Node). put n (p z) q) y_is ∙ ap (put n (p (f x))) q_is
-        ∙ where_changed number_of p f same n xs i y up l (found y) ∙ ap (numbers_where p) (sym nodes);
+          ap (λ (m : ℕ). put m (p y) q) number ∙ ap (λ (z : Node). put n (p z) q) y_is ∙ ap (put n (p (f x))) q_is
+          ∙ where_changed number_of p f same n xs i y up l (found y) ∙ ap (numbers_where p) (sym nodes);
       ordered = subst (λ (zs : List Node). IsAscending (map number_of zs)) (sym nodes) (ascending_changed number_of f same n xs up);
       long = ap length (sets y) ∙ length-set xs i (f x);
     }

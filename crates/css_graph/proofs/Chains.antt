@@ -37,17 +37,19 @@ put_length n w ns =
     appended (x ∷ a) b =
         let rest = appended a b in
         omega (arith, rest)
+
     single : (w : Bool) → length (cond w (n ∷ []) []) ≤ 1
     single true = omega arith
     single false = omega arith
+
     both : (ns : List ℕ) → length (below n ns) + length (above n ns) ≤ length ns
     both [] = omega arith
     both (m ∷ ns) =
         let rest = both ns in
         elim (cases_Bool (ltb m n)) [
           | inl t ↦
-            let f : ltb n m ≡ false = apart m n t in
-            rw (t, f) (omega (arith, rest))
+              let f : ltb n m ≡ false = apart m n t in
+              rw (t, f) (omega (arith, rest))
           | inr f ↦ elim (cases_Bool (ltb n m)) [
             | inl u ↦ rw (f, u) (omega (arith, rest))
             | inr u ↦ rw (f, u) (omega (arith, rest))
@@ -102,13 +104,15 @@ candidates_admitted left then member after bound xs n up stays is =
         or_false : (b : Bool) → (b || false) ≡ b
         or_false true = refl
         or_false false = refl
+
     none : (xs : List Node) → list_any (λ x. eqb x.number n && is_candidate then after bound x) xs ≡ false
     none xs = any_split (may_follow bound) (λ m. not (after m) && eqb (then m) 0) n xs
-      ∙ ap (λ b. list_any (λ x. eqb x.number n && may_follow bound x) xs && (not b && eqb (then n) 0)) (is n ∙ ap (λ b. member n || b) (eq-eqb n n refl) ∙ or_true (member n)) ∙ and_false (list_any (λ x. eqb x.number n && may_follow bound x) xs)
+        ∙ ap (λ b. list_any (λ x. eqb x.number n && may_follow bound x) xs && (not b && eqb (then n) 0)) (is n ∙ ap (λ b. member n || b) (eq-eqb n n refl) ∙ or_true (member n)) ∙ and_false (list_any (λ x. eqb x.number n && may_follow bound x) xs)
       where
         or_true : (b : Bool) → (b || true) ≡ true
         or_true true = refl
         or_true false = refl
+
         and_false : (b : Bool) → (b && false) ≡ false
         and_false true = refl
         and_false false = refl
@@ -133,6 +137,7 @@ none_known chain plan up left members empty =
         default [] k d e l = absurd (omega arith)
         default (x ∷ xs) zero d e l = refl
         default (x ∷ xs) (suc k) d e l = default xs k d e (omega arith)
+
     whole : (m : ℕ) (ps : List ℕ) → m ≡ m - count_where (is_among []) ps
     whole m ps =
         let z = zeroes ps in
@@ -143,6 +148,7 @@ none_known chain plan up left members empty =
         zeroes (p ∷ ps) =
             let rest = zeroes ps in
             omega (arith, rest)
+
     none : (xs : List Node) → All (λ (x : Node). left_at chain plan.nodes x.number ≡ x.missing) xs → numbers_where (is_candidate (left_at chain plan.nodes) (is_member chain) plan.bound) xs ≡ []
     none [] all = refl
     none (x ∷ xs) all =
@@ -231,9 +237,9 @@ module _ (plan : Agenda) (lines : List (ℕ × List ℕ)) (tied : IsTied plan li
       let cs : consumers_at lines n ≡ consumers_of ts n = ap (λ (ls : List (ℕ × List ℕ)). consumers_at ls n) tied.consumers ∙ lines_at (consumers_of ts) ts n added in
       record {
         left = λ k d l.
-          let x = get_or plan.nodes k d in
-          left_after plan.nodes members n fresh k d tied.ordered l (tied.counted k d l).different (left_at chain plan.nodes x.number) (left_at after plan.nodes x.number) (known.left k d l)
-          (left x.number ∙ ap (λ (ns : List ℕ). left_at chain plan.nodes x.number - count_where (λ c. eqb c x.number) ns) cs);
+            let x = get_or plan.nodes k d in
+            left_after plan.nodes members n fresh k d tied.ordered l (tied.counted k d l).different (left_at chain plan.nodes x.number) (left_at after plan.nodes x.number) (known.left k d l)
+            (left x.number ∙ ap (λ (ns : List ℕ). left_at chain plan.nodes x.number - count_where (λ c. eqb c x.number) ns) cs);
         members = λ m. member m ∙ ap (λ b. b || eqb n m) (known.members m) ∙ sym (among_push members n m);
         candidates = candidates;
       }

@@ -79,6 +79,7 @@ room_absent n ls gone ns all k d w h = all k d w (was (is_among ns (get_or ls k 
     was : (a b : Bool) → b ≡ false → (a || b) ≡ true → a ≡ true
     was true b e h = refl
     was false b e h = absurd (false≢true (sym e ∙ h))
+
     other : (ls : List ConsumerList) (k : ℕ) (d : ConsumerList) → list_any (λ l. eqb l.number n) ls ≡ false → k < length ls → eqb (get_or ls k d).number n ≡ false
     other [] k d gone w = absurd (omega arith)
     other (l ∷ ls) zero d gone w = (or_parts (eqb l.number n) (list_any (λ l. eqb l.number n) ls) gone).0
@@ -108,11 +109,11 @@ extended c n (line ∷ lines) =
     let rest = extended c n lines in
     elim (cases_Bool (eqb line.0 n)) [
       | inl e ↦
-        let f : eqb n line.0 ≡ true = eqb_sym n line.0 ∙ e in
-        rw (e, f) (ap (λ (ls : List (ℕ × List ℕ)). (line.0, line.1 ++ c ∷ []) ∷ ls) rest)
+          let f : eqb n line.0 ≡ true = eqb_sym n line.0 ∙ e in
+          rw (e, f) (ap (λ (ls : List (ℕ × List ℕ)). (line.0, line.1 ++ c ∷ []) ∷ ls) rest)
       | inr e ↦
-        let f : eqb n line.0 ≡ false = eqb_sym n line.0 ∙ e in
-        rw (e, f) (ap (λ (ls : List (ℕ × List ℕ)). (line.0, line.1) ∷ ls) rest)
+          let f : eqb n line.0 ≡ false = eqb_sym n line.0 ∙ e in
+          rw (e, f) (ap (λ (ls : List (ℕ × List ℕ)). (line.0, line.1) ∷ ls) rest)
     ]
 
 pub lines_set : (c n : ℕ) (ls : List ConsumerList) (i : ℕ) (l d : ConsumerList) → IsAscending (map list_number ls) → i < length ls → (get_or ls i d).number ≡ n
@@ -129,9 +130,11 @@ lines_set c n ls i l d up within at is =
     got [] i l = refl
     got (m ∷ ls) zero l = refl
     got (m ∷ ls) (suc i) l = got ls i l
+
     many : (ls : List ConsumerList) → length (map line_of ls) ≡ length ls
     many [] = refl
     many (m ∷ ls) = ap suc (many ls)
+
     sets : (ls : List ConsumerList) (i : ℕ) (l : ConsumerList) → map line_of (set ls i l) ≡ set (map line_of ls) i (line_of l)
     sets [] i l = refl
     sets (m ∷ ls) zero l = refl
@@ -156,12 +159,12 @@ each_more c n ns fresh (line ∷ lines) =
     let pushed : is_among (ns ++ n ∷ []) line.0 ≡ (is_among ns line.0 || eqb n line.0) = among_push ns n line.0 in
     elim (cases_Bool (eqb n line.0)) [
       | inl e ↦
-        let out : is_among ns line.0 ≡ false = ap (is_among ns) (sym (eqb-true n line.0 e)) ∙ fresh in
-        let now : is_among (ns ++ n ∷ []) line.0 ≡ true = pushed ∙ ap (λ b. b || eqb n line.0) out ∙ e in
-        rw (e, out, now) (ap (λ (ls : List (ℕ × List ℕ)). (line.0, line.1 ++ c ∷ []) ∷ ls) rest)
+          let out : is_among ns line.0 ≡ false = ap (is_among ns) (sym (eqb-true n line.0 e)) ∙ fresh in
+          let now : is_among (ns ++ n ∷ []) line.0 ≡ true = pushed ∙ ap (λ b. b || eqb n line.0) out ∙ e in
+          rw (e, out, now) (ap (λ (ls : List (ℕ × List ℕ)). (line.0, line.1 ++ c ∷ []) ∷ ls) rest)
       | inr e ↦
-        let now : is_among (ns ++ n ∷ []) line.0 ≡ is_among ns line.0 = pushed ∙ ap (λ b. is_among ns line.0 || b) e ∙ or_false (is_among ns line.0) in
-        rw (e, now) (ap (λ (ls : List (ℕ × List ℕ)). (line.0, cond (is_among ns line.0) (line.1 ++ c ∷ []) line.1) ∷ ls) rest)
+          let now : is_among (ns ++ n ∷ []) line.0 ≡ is_among ns line.0 = pushed ∙ ap (λ b. is_among ns line.0 || b) e ∙ or_false (is_among ns line.0) in
+          rw (e, now) (ap (λ (ls : List (ℕ × List ℕ)). (line.0, cond (is_among ns line.0) (line.1 ++ c ∷ []) line.1) ∷ ls) rest)
     ]
   where
     or_false : (b : Bool) → (b || false) ≡ b
@@ -193,6 +196,7 @@ among_later ns h i d l = rw one (at ns h i d l)
   where
     one : i + 1 ≡ suc i
     one = omega arith
+
     at : (ns : List ℕ) → AreDifferent ns → (i : ℕ) (d : ℕ) → i < length ns → is_among (drop (suc i) ns) (get_or ns i d) ≡ false
     at [] h i d l = absurd (omega arith)
     at (n ∷ ns) h zero d l = h.0
@@ -204,6 +208,7 @@ room_next ls ns i d l all = rw one (at ns i l all)
   where
     one : i + 1 ≡ suc i
     one = omega arith
+
     at : (ns : List ℕ) (i : ℕ) → i < length ns → HaveRoom (drop i ns) ls → HaveRoom (drop (suc i) ns) ls
     at [] i l all = absurd (omega arith)
     at (n ∷ ns) zero l all = room_rest n ns ls all

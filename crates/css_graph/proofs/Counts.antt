@@ -54,11 +54,11 @@ pub count_once : (k : ℕ) (ns : List ℕ) → AreDifferent ns → count_where (
 count_once k [] h = refl
 count_once k (n ∷ ns) h = elim (cases_Bool (eqb n k)) [
   | inl e ↦
-    let rest = count_none k ns (subst (λ m. is_among ns m ≡ false) (eqb-true n k e) h.0) in
-    rw e (omega (arith, rest))
+      let rest = count_none k ns (subst (λ m. is_among ns m ≡ false) (eqb-true n k e) h.0) in
+      rw e (omega (arith, rest))
   | inr e ↦
-    let rest = count_once k ns h.1 in
-    rw e (omega (arith, rest))
+      let rest = count_once k ns h.1 in
+      rw e (omega (arith, rest))
 ]
 
 module _ (finished : ℕ → Bool) where
@@ -72,17 +72,17 @@ module _ (finished : ℕ → Bool) where
   one_finished after n was is others [] h = refl
   one_finished after n was is others (p ∷ ps) h = elim (cases_Bool (eqb p n)) [
     | inl e ↦
-      let same : p ≡ n = eqb-true p n e in
-      let out : is_among ps n ≡ false = subst (λ m. is_among ps m ≡ false) same h.0 in
-      let a : after p ≡ true = ap after same ∙ is in
-      let f : finished p ≡ false = ap finished same ∙ was in
-      let rest : count_where (λ p. not (after p)) ps + cond (is_among ps n) 1 0 ≡ unfinished ps = one_finished after n was is others ps h.1 in
-      let rest' : count_where (λ p. not (after p)) ps + 0 ≡ unfinished ps = rw out at rest in
-      rw (e, a, f) (omega (arith, rest'))
+        let same : p ≡ n = eqb-true p n e in
+        let out : is_among ps n ≡ false = subst (λ m. is_among ps m ≡ false) same h.0 in
+        let a : after p ≡ true = ap after same ∙ is in
+        let f : finished p ≡ false = ap finished same ∙ was in
+        let rest : count_where (λ p. not (after p)) ps + cond (is_among ps n) 1 0 ≡ unfinished ps = one_finished after n was is others ps h.1 in
+        let rest' : count_where (λ p. not (after p)) ps + 0 ≡ unfinished ps = rw out at rest in
+        rw (e, a, f) (omega (arith, rest'))
     | inr e ↦
-      let a : after p ≡ finished p = others p e in
-      let rest : count_where (λ p. not (after p)) ps + cond (is_among ps n) 1 0 ≡ unfinished ps = one_finished after n was is others ps h.1 in
-      rw (e, a) (omega (arith, rest))
+        let a : after p ≡ finished p = others p e in
+        let rest : count_where (λ p. not (after p)) ps + cond (is_among ps n) 1 0 ≡ unfinished ps = one_finished after n was is others ps h.1 in
+        rw (e, a) (omega (arith, rest))
   ]
 
   -- none is missing exactly where all are finished
@@ -104,8 +104,8 @@ module _ (finished : ℕ → Bool) where
         let rest = members_within ps in
         elim (cases_Bool (member p)) [
           | inl e ↦
-            let f : finished p ≡ false = disjoint p e in
-            rw (e, f) (omega (arith, rest))
+              let f : finished p ≡ false = disjoint p e in
+              rw (e, f) (omega (arith, rest))
           | inr e ↦ elim (cases_Bool (finished p)) [
             | inl t ↦ rw (e, t) (omega (arith, rest))
             | inr f ↦ rw (e, f) (omega (arith, rest))
@@ -120,13 +120,13 @@ module _ (finished : ℕ → Bool) where
         let rest = none_left ps in
         elim (cases_Bool (member p)) [
           | inl e ↦
-            let f : finished p ≡ false = disjoint p e in
-            let less : (1 + unfinished ps) - (1 + count_where member ps) ≡ unfinished ps - count_where member ps = omega arith in
-            rw (e, f) (ap (λ k. eqb k 0) less ∙ rest)
+              let f : finished p ≡ false = disjoint p e in
+              let less : (1 + unfinished ps) - (1 + count_where member ps) ≡ unfinished ps - count_where member ps = omega arith in
+              rw (e, f) (ap (λ k. eqb k 0) less ∙ rest)
           | inr e ↦ elim (cases_Bool (finished p)) [
             | inl t ↦
-              let same : (0 + unfinished ps) - (0 + count_where member ps) ≡ unfinished ps - count_where member ps = omega arith in
-              rw (e, t) (ap (λ k. eqb k 0) same ∙ rest)
+                let same : (0 + unfinished ps) - (0 + count_where member ps) ≡ unfinished ps - count_where member ps = omega arith in
+                rw (e, t) (ap (λ k. eqb k 0) same ∙ rest)
             | inr f ↦ rw (e, f) (ne_eqb ((1 + unfinished ps) - (0 + count_where member ps)) 0 (λ same. omega arith))
           ]
         ]
@@ -139,8 +139,8 @@ module _ (finished : ℕ → Bool) where
         let rest = some_member ps parts.1 in
         elim (cases_Bool (member p)) [
           | inl e ↦
-            let f : finished p ≡ false = disjoint p e in
-            rw (e, f) (lt-ltb 0 (1 + unfinished ps) (omega arith))
+              let f : finished p ≡ false = disjoint p e in
+              rw (e, f) (lt-ltb 0 (1 + unfinished ps) (omega arith))
           | inr e ↦ elim (cases_Bool (finished p)) [
             | inl t ↦ rw (e, t) (ap (λ k. ltb 0 k) (zero_plus (unfinished ps)) ∙ rest)
             | inr f ↦ absurd (neither (finished p) (member p) f e parts.0)
@@ -149,6 +149,7 @@ module _ (finished : ℕ → Bool) where
       where
         zero_plus : (k : ℕ) → 0 + k ≡ k
         zero_plus k = omega arith
+
         neither : (a b : Bool) → a ≡ false → b ≡ false → (a || b) ≡ true → ⊥
         neither a b e f h = false≢true (sym (rw (e, f) refl) ∙ h)
 
@@ -161,23 +162,25 @@ one_member bundle n fresh (p ∷ ps) h =
     let pushed : is_among (bundle ++ n ∷ []) p ≡ (is_among bundle p || eqb n p) = among_push bundle n p in
     elim (cases_Bool (eqb p n)) [
       | inl e ↦
-        let same : p ≡ n = eqb-true p n e in
-        let out : is_among ps n ≡ false = subst (λ m. is_among ps m ≡ false) same h.0 in
-        let was : is_among bundle p ≡ false = ap (is_among bundle) same ∙ fresh in
-        let here : eqb n p ≡ true = eqb_sym n p ∙ e in
-        let now : is_among (bundle ++ n ∷ []) p ≡ true = pushed ∙ ap (λ b. b || eqb n p) was ∙ here in
-        let rest' : count_where (is_among (bundle ++ n ∷ [])) ps ≡ count_where (is_among bundle) ps + 0 = rw out at rest in
-        step_true (is_among (bundle ++ n ∷ []) p) (is_among bundle p) (eqb p n) (is_among ps n) _ _ now was e rest'
+          let same : p ≡ n = eqb-true p n e in
+          let out : is_among ps n ≡ false = subst (λ m. is_among ps m ≡ false) same h.0 in
+          let was : is_among bundle p ≡ false = ap (is_among bundle) same ∙ fresh in
+          let here : eqb n p ≡ true = eqb_sym n p ∙ e in
+          let now : is_among (bundle ++ n ∷ []) p ≡ true = pushed ∙ ap (λ b. b || eqb n p) was ∙ here in
+          let rest' : count_where (is_among (bundle ++ n ∷ [])) ps ≡ count_where (is_among bundle) ps + 0 = rw out at rest in
+          step_true (is_among (bundle ++ n ∷ []) p) (is_among bundle p) (eqb p n) (is_among ps n) _ _ now was e rest'
       | inr e ↦
-        let here : eqb n p ≡ false = eqb_sym n p ∙ e in
-        let now : is_among (bundle ++ n ∷ []) p ≡ is_among bundle p = pushed ∙ ap (λ b. is_among bundle p || b) here ∙ or_false (is_among bundle p) in
-        step_false (is_among (bundle ++ n ∷ []) p) (is_among bundle p) (eqb p n) (is_among ps n) _ _ now e rest
+          let here : eqb n p ≡ false = eqb_sym n p ∙ e in
+          let now : is_among (bundle ++ n ∷ []) p ≡ is_among bundle p = pushed ∙ ap (λ b. is_among bundle p || b) here ∙ or_false (is_among bundle p) in
+          step_false (is_among (bundle ++ n ∷ []) p) (is_among bundle p) (eqb p n) (is_among ps n) _ _ now e rest
     ]
   where
     or_false : (b : Bool) → (b || false) ≡ b
     or_false true = refl
     or_false false = refl
+
     step_true : (now was here there : Bool) (a b : ℕ) → now ≡ true → was ≡ false → here ≡ true → a ≡ b + 0 → cond now 1 0 + a ≡ (cond was 1 0 + b) + cond (here || there) 1 0
     step_true now was here there a b e f g h = rw (e, f, g) (omega arith)
+
     step_false : (now was here there : Bool) (a b : ℕ) → now ≡ was → here ≡ false → a ≡ b + cond there 1 0 → cond now 1 0 + a ≡ (cond was 1 0 + b) + cond (here || there) 1 0
     step_false now was here there a b e f h = rw (e, f) (omega arith)

@@ -24,11 +24,11 @@ one_test r m (x ∷ xs) all =
     let rest = one_test r m xs (All-tail (λ x. r x ≡ m (task_of x)) x xs all) in
     elim (cases_Bool (m (task_of x))) [
       | inl t ↦
-        let t' : r x ≡ true = here ∙ t in
-        rw (t', t) (ap (λ l. x.number ∷ l) rest)
+          let t' : r x ≡ true = here ∙ t in
+          rw (t', t) (ap (λ l. x.number ∷ l) rest)
       | inr f ↦
-        let f' : r x ≡ false = here ∙ f in
-        rw (f', f) rest
+          let f' : r x ≡ false = here ∙ f in
+          rw (f', f) rest
     ]
 
 shuffled : (w b a n : Bool) → ((w && (b && a)) && (n && true)) ≡ (w && (n && (b && (true && a))))
@@ -84,14 +84,14 @@ pub first_passes : (q : Task → Bool) (ts : List Task) (n : ℕ) (rest : List �
 first_passes q [] n rest e = absurd cc
 first_passes q (t ∷ ts) n rest e = elim (cases_Bool (q t)) [
   | inl y ↦
-    let whole : t.number ∷ map (λ t. t.number) (filter q ts) ≡ n ∷ rest = rw y at e in
-    let at : t.number ≡ n = cc in
-    let same : eqb t.number n ≡ true = eq-eqb t.number n at in
-    (t, y, at, rw (same, y) refl)
+      let whole : t.number ∷ map (λ t. t.number) (filter q ts) ≡ n ∷ rest = rw y at e in
+      let at : t.number ≡ n = cc in
+      let same : eqb t.number n ≡ true = eq-eqb t.number n at in
+      (t, y, at, rw (same, y) refl)
   | inr f ↦
-    let whole : map (λ t. t.number) (filter q ts) ≡ n ∷ rest = rw f at e in
-    let found = first_passes q ts n rest whole in
-    (found.0, found.1, found.2, rw found.3 (or_true (eqb t.number n && q t)))
+      let whole : map (λ t. t.number) (filter q ts) ≡ n ∷ rest = rw f at e in
+      let found = first_passes q ts n rest whole in
+      (found.0, found.1, found.2, rw found.3 (or_true (eqb t.number n && q t)))
 ]
   where
     or_true : (b : Bool) → (b || true) ≡ true
@@ -103,8 +103,8 @@ any_weaker p q w [] h = absurd (false≢true h)
 any_weaker p q w (t ∷ ts) h = elim (cases_Bool (p t)) [
   | inl e ↦ rw (w t e) refl
   | inr e ↦
-    let rest : list_any p ts ≡ true = rw e at h in
-    rw (any_weaker p q w ts rest) (or_true (q t))
+      let rest : list_any p ts ≡ true = rw e at h in
+      rw (any_weaker p q w ts rest) (or_true (q t))
 ]
   where
     or_true : (b : Bool) → (b || true) ≡ true
@@ -118,7 +118,7 @@ next_waits ts members n rest e =
     let found = first_passes (goes_on ts members) ts n rest e in
     any_weaker (λ u. eqb u.number n && goes_on ts members u) (λ u. eqb u.number n && is_waiting u.state)
     (λ t h. let parts = and_parts (eqb t.number n) (goes_on ts members t) h in
-        and_from (eqb t.number n) (is_waiting t.state) parts.0 (and_parts (is_waiting t.state) (not (is_among members t.number) && (is_below_stops ts t.number && (list_all (λ p. is_number_finished ts p || is_among members p) t.producers && list_any (is_among members) t.producers))) parts.1).0) ts found.3
+    and_from (eqb t.number n) (is_waiting t.state) parts.0 (and_parts (is_waiting t.state) (not (is_among members t.number) && (is_below_stops ts t.number && (list_all (λ p. is_number_finished ts p || is_among members p) t.producers && list_any (is_among members) t.producers))) parts.1).0) ts found.3
 
 pub next_fresh : (ts : List Task) (members : List ℕ) (n : ℕ) (rest : List ℕ) → map (λ t. t.number) (following ts members) ≡ n ∷ rest → is_among members n ≡ false
 unfolding following goes_on
@@ -172,8 +172,8 @@ lines_at g [] n h = absurd (false≢true h)
 lines_at g (t ∷ ts) n h = elim (cases_Bool (eqb t.number n)) [
   | inl e ↦ rw e (ap g (eqb-true t.number n e))
   | inr e ↦
-    let rest : list_any (λ u. eqb u.number n && true) ts ≡ true = rw e at h in
-    rw e (lines_at g ts n rest)
+      let rest : list_any (λ u. eqb u.number n && true) ts ≡ true = rw e at h in
+      rw e (lines_at g ts n rest)
 ]
 
 -- what is left to a node once one more is a member
@@ -226,7 +226,7 @@ fresh_differs members n h fresh = different_append members (n ∷ []) h (refl, t
     apart (m ∷ ms) e = elim (cases_Bool (eqb m n)) [
       | inl y ↦ absurd (false≢true (sym (rw y at e)))
       | inr f ↦
-        let f' : eqb n m ≡ false = eqb_sym n m ∙ f in
-        let rest : is_among ms n ≡ false = rw f at e in
-        rw f' (apart ms rest)
+          let f' : eqb n m ≡ false = eqb_sym n m ∙ f in
+          let rest : is_among ms n ≡ false = rw f at e in
+          rw f' (apart ms rest)
     ]

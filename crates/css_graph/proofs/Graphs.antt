@@ -1,13 +1,14 @@
 -- What the calls leave of a graph.
-use Rattle.std.proofs.Common.{◌≡◌, ◌≢◌, ◌↔◌, ℕ, zero, suc, ◌+◌, ◌-◌, ◌<◌, ◌≤◌, Bool, true, false, cond, ◌&&◌, ◌||◌, not, eqb, ltb, List, [], ◌∷◌, ◌++◌, length, get_or, map, Option, Some, None, IsTrue, refl, sym, ap, ◌∙◌, subst, inl, inr, append-nil, arith}
+use Rattle.std.proofs.Common.{◌≡◌, ◌≢◌, ◌↔◌, ℕ, zero, suc, ◌+◌, ◌-◌, ◌<◌, ◌≤◌, Bool, true, false, cond, ◌&&◌, ◌||◌, not, eqb, ltb, List, [], ◌∷◌, ◌++◌, length, get_or, take, min, map, Option, Some, None, IsTrue, refl, sym, ap, ◌∙◌, subst, inl, inr, append-nil, arith}
 use Rattle.std.specs.List.{filter, list_any, list_all, All}
+use Rattle.std.specs.Int.{div_ceil}
 use Rattle.std.proofs.lemmas.Bool.{cases_Bool, and_parts, and_from, false≢true, eqb-true, ne_eqb, eq-eqb, ltb-true, lt-ltb, le-ltb}
 use Rattle.std.proofs.lemmas.List.Elements.{All-push, All-head, All-tail}
 use Rattle.css_graph.specs.declared.node.Node.{Node}
 use Rattle.css_graph.specs.declared.state.TaskState.{TaskState}
 use Rattle.css_graph.specs.declared.state.TaskState.TheVariants.{Waiting, Out, Finished, Stopped}
-use Rattle.css_graph.specs.Tasks.{Task, is_out, is_waiting, is_finished, is_stopped, is_among, some_task, is_number_added, is_number_out, is_number_waiting, is_number_finished, is_below_stops, come_to}
-use Rattle.css_graph.specs.Bundle.{AreDifferent, takeable}
+use Rattle.css_graph.specs.Tasks.{Task, TaskGraph, is_out, is_waiting, is_finished, is_stopped, is_among, some_task, is_number_added, is_number_out, is_number_waiting, is_number_finished, is_below_stops, come_to}
+use Rattle.css_graph.specs.Bundle.{AreDifferent, takeable, in_turn, beginning, continued, bundle}
 use Rattle.css_graph.specs.Nodes.{Agenda, IsAscending, task_of, is_below, lower_bound, count_where, in_state_by, less_by}
 use Rattle.css_graph.specs.Consumers.{consumers_of, lines_of, consumers_at, with_line, with_each}
 use Rattle.css_graph.specs.Graph.{IsCounted, IsTied}
@@ -56,7 +57,7 @@ module _ (plan : Agenda) (lines : List (ℕ × List ℕ)) (tied : IsTied plan li
       tied_at lines after (map (less_by (consumers_at lines n)) (map (in_state_by Finished (n ∷ [])) plan.nodes)) plan.bound
       (nodes' ∙ ap (map (less_by (consumers_at lines n))) nodes) (bound' ∙ bound)
       (tied_done plan.nodes plan.bound plan.room lines tied after.room n out (added_from is_out ts n out) (number_unfinished is_out out_unfinished ts ascending n out)
-        (all_pass is_out (n ∷ []) ts ascending (and_from (some_task is_out ts n) true out refl)))
+      (all_pass is_out (n ∷ []) ts ascending (and_from (some_task is_out ts n) true out refl)))
 
   pub stopped_tied : (middle after : Agenda) (n : ℕ) → is_number_out (map task_of plan.nodes) n ≡ true
       → middle.nodes ≡ map (in_state_by Stopped (n ∷ [])) plan.nodes → middle.bound ≡ plan.bound
@@ -67,7 +68,7 @@ module _ (plan : Agenda) (lines : List (ℕ × List ℕ)) (tied : IsTied plan li
       tied_at lines after (map (in_state_by Stopped (n ∷ [])) plan.nodes) (lower_bound plan.bound n)
       (nodes' ∙ nodes) (bound' ∙ ap (λ (b : Option ℕ). lower_bound b n) bound)
       (tied_stopped plan.nodes plan.bound plan.room lines tied after.room n out (added_from is_out ts n out)
-        (all_pass is_out (n ∷ []) ts ascending (and_from (some_task is_out ts n) true out refl)))
+      (all_pass is_out (n ∷ []) ts ascending (and_from (some_task is_out ts n) true out refl)))
 
 -- the tasks after a change of states
 pub states_tasks : (s : TaskState) (ns : List ℕ) (xs ys : List Node) → ys ≡ map (in_state_by s ns) xs → map task_of ys ≡ come_to s ns (map task_of xs)
@@ -104,8 +105,8 @@ added_below (t ∷ ts) n p h e =
     elim (cases_Bool (eqb t.number p)) [
       | inl y ↦ subst (λ m. ltb m n ≡ true) (eqb-true t.number p y) parts.0
       | inr f ↦
-        let rest : list_any (λ (u : Task). eqb u.number p && true) ts ≡ true = rw f at e in
-        added_below ts n p parts.1 rest
+          let rest : list_any (λ (u : Task). eqb u.number p && true) ts ≡ true = rw f at e in
+          added_below ts n p parts.1 rest
     ]
 
 producers_below : (ts : List Task) (n : ℕ) (ps : List ℕ) → list_all (λ (t : Task). ltb t.number n) ts ≡ true → list_all (is_number_added ts) ps ≡ true → list_all (λ p. ltb p n) ps ≡ true
@@ -194,36 +195,37 @@ added_tied plan after lines x tied waits missing above added different nodes bou
     let unfinished : is_finished x.state ≡ false = ap is_finished waits in
     let unstopped : is_stopped x.state ≡ false = ap is_stopped waits in
     let finished : (p : ℕ) → is_number_finished ts' p ≡ is_number_finished ts p = λ p.
-      ap (λ us. is_number_finished us p) ts_is ∙ any_push (λ (u : Task). eqb u.number p && is_finished u.state) ts t (and_false (eqb x.number p) (is_finished x.state) unfinished) in
+    ap (λ us. is_number_finished us p) ts_is ∙ any_push (λ (u : Task). eqb u.number p && is_finished u.state) ts t (and_false (eqb x.number p) (is_finished x.state) unfinished) in
     let stops : (m : ℕ) → is_below_stops ts' m ≡ is_below_stops ts m = λ m.
-      ap (λ us. is_below_stops us m) ts_is ∙ all_push (λ (u : Task). not (is_stopped u.state) || ltb m u.number) ts t (or_not (is_stopped x.state) (ltb m x.number) unstopped) in
+    ap (λ us. is_below_stops us m) ts_is ∙ all_push (λ (u : Task). not (is_stopped u.state) || ltb m u.number) ts t (or_not (is_stopped x.state) (ltb m x.number) unstopped) in
     let under = nodes_below xs x.number above in
     let earlier = producers_below ts x.number x.producers.items above added in
     let none : consumers_of (ts ++ t ∷ []) x.number ≡ [] =
     consumers_push ts t x.number ∙ ap (λ b. cond b (consumers_of ts x.number ++ x.number ∷ []) (consumers_of ts x.number)) (not_among x.number x.producers.items earlier)
     ∙ no_consumers xs x.number under (λ k d l. (tied.counted k d l).earlier) in
     let more : IsTied (record { nodes = xs ++ x ∷ []; bound = plan.bound; room = after.room }) (with_line x.number x.producers.items lines) = record {
-        ordered = ascending_pushed number_of xs x tied.ordered under;
-        counted = All-push (IsCounted ts') xs x
+      ordered = ascending_pushed number_of xs x tied.ordered under;
+      counted = All-push (IsCounted ts') xs x
           (λ k d l. record {
             earlier = (tied.counted k d l).earlier;
             different = (tied.counted k d l).different;
             missing = (tied.counted k d l).missing ∙ count_same (λ p. not (is_number_finished ts p)) (λ p. not (is_number_finished ts' p)) (λ p. ap not (sym (finished p))) (get_or xs k d).producers.items;
           })
           (record { earlier = earlier; different = different; missing = missing ∙ count_same (λ p. not (is_number_finished ts p)) (λ p. not (is_number_finished ts' p)) (λ p. ap not (sym (finished p))) x.producers.items });
-        bound = λ m. tied.bound m ∙ sym (stops m);
-        consumers =
+      bound = λ m. tied.bound m ∙ sym (stops m);
+      consumers =
           ap (with_line x.number x.producers.items) tied.consumers
           ∙ ap (λ (l : List (ℕ × List ℕ)). l ++ (x.number, []) ∷ []) (lines_push ts ts t)
           ∙ ap (λ (c : List ℕ). let last : ℕ × List ℕ = (x.number, c) in map {B = ℕ × List ℕ} (λ u. (u.number, consumers_of (ts ++ t ∷ []) u.number)) ts ++ last ∷ []) (sym none)
           ∙ sym (map_push {Y = ℕ × List ℕ} (λ u. (u.number, consumers_of (ts ++ t ∷ []) u.number)) ts t)
           ∙ ap lines_of (sym ts_is);
-      } in
+    } in
     tied_at (with_line x.number x.producers.items lines) after (xs ++ x ∷ []) plan.bound nodes bound more
   where
     and_false : (a b : Bool) → b ≡ false → (a && b) ≡ false
     and_false true b e = e
     and_false false b e = refl
+
     or_not : (a b : Bool) → a ≡ false → (not a || b) ≡ true
     or_not true b e = absurd (false≢true (sym e))
     or_not false b e = refl
@@ -243,3 +245,19 @@ pub some_takeable : (ts : List Task) (r : ℕ) → r ≡ length (takeable ts) �
 some_takeable ts r e l none =
     let z : length (takeable ts) ≡ 0 = ap length none in
     omega arith
+
+-- what is made is the bundle
+pub bundle_is : (g : TaskGraph) (most r share : ℕ) (first whole : List ℕ) → r ≡ length (takeable g.tasks) → share ≡ min most (div_ceil r g.workers) → first ≡ take share (in_turn g.tasks)
+    → whole ≡ continued g.tasks (most - length first) first → whole ≡ bundle g most
+unfolding bundle beginning
+bundle_is g most r share first whole r_is share_is first_is whole_is =
+    let shares : share ≡ min most (div_ceil (length (takeable g.tasks)) g.workers) = share_is ∙ ap (λ k. min most (div_ceil k g.workers)) r_is in
+    let firsts : first ≡ take (min most (div_ceil (length (takeable g.tasks)) g.workers)) (in_turn g.tasks) = first_is ∙ ap (λ k. take k (in_turn g.tasks)) shares in
+    whole_is ∙ ap (λ ns. continued g.tasks (most - length ns) ns) firsts
+
+pub take_short : (k : ℕ) (ns : List ℕ) → length (take k ns) ≤ k
+take_short zero ns = omega arith
+take_short (suc k) [] = omega arith
+take_short (suc k) (n ∷ ns) =
+    let rest = take_short k ns in
+    omega (arith, rest)

@@ -41,13 +41,13 @@ module _ {X : Type 0} (key : X → ℕ) where
   among_keys h c [] = refl
   among_keys h c (x ∷ xs) = elim (cases_Bool (h x)) [
     | inl e ↦ rw e (elim (cases_Bool (eqb (key x) c)) [
-        | inl t ↦ rw t refl
-        | inr f ↦ rw f (among_keys h c xs)
-      ])
+      | inl t ↦ rw t refl
+      | inr f ↦ rw f (among_keys h c xs)
+    ])
     | inr e ↦ rw e (elim (cases_Bool (eqb (key x) c)) [
-        | inl t ↦ rw t (among_keys h c xs)
-        | inr f ↦ rw f (among_keys h c xs)
-      ])
+      | inl t ↦ rw t (among_keys h c xs)
+      | inr f ↦ rw f (among_keys h c xs)
+    ])
   ]
 
   -- tests that agree at all other keys select the same keys, where this one is left out
@@ -65,18 +65,18 @@ module _ {X : Type 0} (key : X → ℕ) where
     same_but_one q out [] = refl
     same_but_one q out (x ∷ xs) = elim (cases_Bool (eqb (key x) c)) [
       | inl same ↦
-        let e : q (key x) ≡ false = ap q (eqb-true (key x) c same) ∙ out in
-        left_out q g x xs e ∙ same_but_one q out xs ∙ sym (left_out q h x xs e)
+          let e : q (key x) ≡ false = ap q (eqb-true (key x) c same) ∙ out in
+          left_out q g x xs e ∙ same_but_one q out xs ∙ sym (left_out q h x xs e)
       | inr other ↦
-        let e : g x ≡ h x = agree x other in
-        elim (cases_Bool (h x)) [
-          | inl t ↦
-            let t' : g x ≡ true = e ∙ t in
-            rw (t', t) (kept_cons q (key x) (keys_where g xs) (keys_where h xs) (same_but_one q out xs))
-          | inr f ↦
-            let f' : g x ≡ false = e ∙ f in
-            rw (f', f) (same_but_one q out xs)
-        ]
+          let e : g x ≡ h x = agree x other in
+          elim (cases_Bool (h x)) [
+            | inl t ↦
+                let t' : g x ≡ true = e ∙ t in
+                rw (t', t) (kept_cons q (key x) (keys_where g xs) (keys_where h xs) (same_but_one q out xs))
+            | inr f ↦
+                let f' : g x ≡ false = e ∙ f in
+                rw (f', f) (same_but_one q out xs)
+          ]
     ]
 
     pub put_changed : (xs : List X) → IsAscending (map key xs) → (w : Bool) → w ≡ list_any (λ x. eqb (key x) c && h x) xs → put c w (keys_where g xs) ≡ keys_where h xs
@@ -233,9 +233,9 @@ module _ {X : Type 0} (key : X → ℕ) where
   where_below p n [] = refl
   where_below p n (x ∷ xs) = elim (cases_Bool (p x)) [
     | inl e ↦ rw e (elim (cases_Bool (ltb (key x) n)) [
-        | inl t ↦ rw t (ap (λ l. key x ∷ l) (where_below p n xs))
-        | inr f ↦ rw f (where_below p n xs)
-      ])
+      | inl t ↦ rw t (ap (λ l. key x ∷ l) (where_below p n xs))
+      | inr f ↦ rw f (where_below p n xs)
+    ])
     | inr e ↦ rw e (where_below p n xs)
   ]
 
@@ -280,7 +280,7 @@ module _ {X : Type 0} (key : X → ℕ) where
         within = tt;
         found = tt;
         absent = none_from_places n xs (λ k d l. elim (cases_lt k at) [
-            | inl lt ↦ less_ranks (key (get_or xs k d)) n (split.0 k d (omega arith) lt)
-            | inr le ↦ greater_ranks (key (get_or xs k d)) n (split.1 k d le l)
-          ]);
+          | inl lt ↦ less_ranks (key (get_or xs k d)) n (split.0 k d (omega arith) lt)
+          | inr le ↦ greater_ranks (key (get_or xs k d)) n (split.1 k d le l)
+        ]);
       }

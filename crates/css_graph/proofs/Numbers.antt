@@ -102,23 +102,23 @@ pub put_itself : (n : ℕ) (ns : List ℕ) → IsAscending ns → put n (is_amon
 put_itself n [] h = refl
 put_itself n (x ∷ ns) h = elim (cases_order x n) [
   | inl same ↦
-    let over : list_all (ltb n) ns ≡ true = above_all n x ns (omega arith) h.0 in
-    let e1 : eqb x n ≡ true = eq-eqb x n same in
-    let e2 : ltb x n ≡ false = le-ltb x n (omega arith) in
-    let e3 : ltb n x ≡ false = le-ltb n x (omega arith) in
-    rw (e1, e2, e3, none_below n ns over, all_above n ns over, same) refl
+      let over : list_all (ltb n) ns ≡ true = above_all n x ns (omega arith) h.0 in
+      let e1 : eqb x n ≡ true = eq-eqb x n same in
+      let e2 : ltb x n ≡ false = le-ltb x n (omega arith) in
+      let e3 : ltb n x ≡ false = le-ltb n x (omega arith) in
+      rw (e1, e2, e3, none_below n ns over, all_above n ns over, same) refl
   | inr other ↦ elim other [
     | inl lt ↦
-      let e1 : eqb x n ≡ false = ne_eqb x n (λ same. omega arith) in
-      let e2 : ltb x n ≡ true = lt-ltb x n lt in
-      let e3 : ltb n x ≡ false = le-ltb n x (omega arith) in
-      rw (e1, e2, e3) (ap (λ l. x ∷ l) (put_itself n ns h.1))
+        let e1 : eqb x n ≡ false = ne_eqb x n (λ same. omega arith) in
+        let e2 : ltb x n ≡ true = lt-ltb x n lt in
+        let e3 : ltb n x ≡ false = le-ltb n x (omega arith) in
+        rw (e1, e2, e3) (ap (λ l. x ∷ l) (put_itself n ns h.1))
     | inr gt ↦
-      let over : list_all (ltb n) ns ≡ true = above_all n x ns (omega arith) h.0 in
-      let e1 : eqb x n ≡ false = ne_eqb x n (λ same. omega arith) in
-      let e2 : ltb x n ≡ false = le-ltb x n (omega arith) in
-      let e3 : ltb n x ≡ true = lt-ltb n x gt in
-      rw (e1, e2, e3, none_below n ns over, all_above n ns over, none_among n ns over) refl
+        let over : list_all (ltb n) ns ≡ true = above_all n x ns (omega arith) h.0 in
+        let e1 : eqb x n ≡ false = ne_eqb x n (λ same. omega arith) in
+        let e2 : ltb x n ≡ false = le-ltb x n (omega arith) in
+        let e3 : ltb n x ≡ true = lt-ltb n x gt in
+        rw (e1, e2, e3, none_below n ns over, all_above n ns over, none_among n ns over) refl
   ]
 ]
 
@@ -128,24 +128,24 @@ pub from_number : (n : ℕ) (ns : List ℕ) → IsAscending ns
 from_number n [] h = (λ e. absurd (false≢true e), λ e. refl)
 from_number n (x ∷ ns) h = elim (cases_order x n) [
   | inl same ↦
-    let over : list_all (ltb n) ns ≡ true = above_all n x ns (omega arith) h.0 in
-    let e1 : eqb x n ≡ true = eq-eqb x n same in
-    let e2 : ltb x n ≡ false = le-ltb x n (omega arith) in
-    let e3 : ltb n x ≡ false = le-ltb n x (omega arith) in
-    let whole : filter (λ m. not (ltb m n)) ns ≡ ns = filter_all (λ m. not (ltb m n)) ns (list_all_weaker (ltb n) (λ m. not (ltb m n)) (λ y e. ap not (le-ltb y n (omega (arith, ltb-true n y e)))) ns over) in
-    rw (e2, e1, e3, whole, all_above n ns over) (λ e. ap (λ m. m ∷ ns) same, λ e. absurd (false≢true (sym e)))
+      let over : list_all (ltb n) ns ≡ true = above_all n x ns (omega arith) h.0 in
+      let e1 : eqb x n ≡ true = eq-eqb x n same in
+      let e2 : ltb x n ≡ false = le-ltb x n (omega arith) in
+      let e3 : ltb n x ≡ false = le-ltb n x (omega arith) in
+      let whole : filter (λ m. not (ltb m n)) ns ≡ ns = filter_all (λ m. not (ltb m n)) ns (list_all_weaker (ltb n) (λ m. not (ltb m n)) (λ y e. ap not (le-ltb y n (omega (arith, ltb-true n y e)))) ns over) in
+      rw (e2, e1, e3, whole, all_above n ns over) (λ e. ap (λ m. m ∷ ns) same, λ e. absurd (false≢true (sym e)))
   | inr other ↦ elim other [
     | inl lt ↦
-      let e2 : ltb x n ≡ true = lt-ltb x n lt in
-      let e3 : ltb n x ≡ false = le-ltb n x (omega arith) in
-      rw (e2, e3) (from_number n ns h.1)
+        let e2 : ltb x n ≡ true = lt-ltb x n lt in
+        let e3 : ltb n x ≡ false = le-ltb n x (omega arith) in
+        rw (e2, e3) (from_number n ns h.1)
     | inr gt ↦
-      let over : list_all (ltb n) ns ≡ true = above_all n x ns (omega arith) h.0 in
-      let e1 : eqb x n ≡ false = ne_eqb x n (λ same. omega arith) in
-      let e2 : ltb x n ≡ false = le-ltb x n (omega arith) in
-      let e3 : ltb n x ≡ true = lt-ltb n x gt in
-      let whole : filter (λ m. not (ltb m n)) ns ≡ ns = filter_all (λ m. not (ltb m n)) ns (list_all_weaker (ltb n) (λ m. not (ltb m n)) (λ y e. ap not (le-ltb y n (omega (arith, ltb-true n y e)))) ns over) in
-      rw (e2, e1, e3, whole, all_above n ns over) (λ e. absurd (false≢true e), λ e. refl)
+        let over : list_all (ltb n) ns ≡ true = above_all n x ns (omega arith) h.0 in
+        let e1 : eqb x n ≡ false = ne_eqb x n (λ same. omega arith) in
+        let e2 : ltb x n ≡ false = le-ltb x n (omega arith) in
+        let e3 : ltb n x ≡ true = lt-ltb n x gt in
+        let whole : filter (λ m. not (ltb m n)) ns ≡ ns = filter_all (λ m. not (ltb m n)) ns (list_all_weaker (ltb n) (λ m. not (ltb m n)) (λ y e. ap not (le-ltb y n (omega (arith, ltb-true n y e)))) ns over) in
+        rw (e2, e1, e3, whole, all_above n ns over) (λ e. absurd (false≢true e), λ e. refl)
   ]
 ]
 
@@ -164,11 +164,14 @@ ascending_put n w ns h =
       | inl e ↦ rw e (and_from (p m) (list_all p (filter p ms)) e (passes p ms))
       | inr e ↦ rw e (passes p ms)
     ]
+
     lt_le : (m : ℕ) → ltb m n ≡ true → m ≤ n
     lt_le m e = omega (arith, ltb-true m n e)
+
     middle : (w : Bool) → IsAscending (above n ns) → list_all (ltb n) (above n ns) ≡ true → IsAscending (cond w (n ∷ []) [] ++ above n ns)
     middle true up high = (high, up)
     middle false up high = up
+
     over : (m : ℕ) (w : Bool) → ltb m n ≡ true → list_all (ltb m) (above n ns) ≡ true → list_all (ltb m) (cond w (n ∷ []) [] ++ above n ns) ≡ true
     over m true e up = and_from (ltb m n) (list_all (ltb m) (above n ns)) e up
     over m false e up = up

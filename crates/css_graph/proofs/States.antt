@@ -37,16 +37,16 @@ one_passes : (test : TaskState → Bool) (n : ℕ) (ts : List Task) → IsAscend
 one_passes test n [] up h = refl
 one_passes test n (t ∷ ts) up h = elim (cases_Bool (eqb t.number n)) [
   | inl e ↦
-    let at : t.number ≡ n = eqb-true t.number n e in
-    let rest_up : list_all (ltb n) (map number_of ts) ≡ true = subst (λ m. list_all (ltb m) (map number_of ts) ≡ true) at up.0 in
-    let none : list_any (λ x. eqb x.number n && test x.state) ts ≡ false = none_above number_of (λ x. test x.state) n ts rest_up in
-    let whole : (test t.state || false) ≡ true = rw (e, none) at h in
-    and_from (not (eqb t.number n) || test t.state) (list_all (λ t. not (eqb t.number n) || test t.state) ts)
-    (or_right (not (eqb t.number n)) (test t.state) (sym (or_false (test t.state)) ∙ whole)) (others n ts rest_up)
+      let at : t.number ≡ n = eqb-true t.number n e in
+      let rest_up : list_all (ltb n) (map number_of ts) ≡ true = subst (λ m. list_all (ltb m) (map number_of ts) ≡ true) at up.0 in
+      let none : list_any (λ x. eqb x.number n && test x.state) ts ≡ false = none_above number_of (λ x. test x.state) n ts rest_up in
+      let whole : (test t.state || false) ≡ true = rw (e, none) at h in
+      and_from (not (eqb t.number n) || test t.state) (list_all (λ t. not (eqb t.number n) || test t.state) ts)
+      (or_right (not (eqb t.number n)) (test t.state) (sym (or_false (test t.state)) ∙ whole)) (others n ts rest_up)
   | inr e ↦
-    let rest : some_task test ts n ≡ true = rw e at h in
-    and_from (not (eqb t.number n) || test t.state) (list_all (λ t. not (eqb t.number n) || test t.state) ts)
-    (or_left (not (eqb t.number n)) (test t.state) (ap not e)) (one_passes test n ts up.1 rest)
+      let rest : some_task test ts n ≡ true = rw e at h in
+      and_from (not (eqb t.number n) || test t.state) (list_all (λ t. not (eqb t.number n) || test t.state) ts)
+      (or_left (not (eqb t.number n)) (test t.state) (ap not e)) (one_passes test n ts up.1 rest)
 ]
   where
     others : (n : ℕ) (ts : List Task) → list_all (ltb n) (map number_of ts) ≡ true → list_all (λ t. not (eqb t.number n) || test t.state) ts ≡ true
@@ -79,9 +79,9 @@ module _ (s : TaskState) (test : TaskState → Bool) where
       let rest = same_finished now was ns ts parts.1 p in
       elim (cases_Bool (is_among ns t.number)) [
         | inl e ↦
-          let passes : test t.state ≡ true = needed (is_among ns t.number) (test t.state) e parts.0 in
-          let old : is_finished t.state ≡ false = was t.state passes in
-          rw (e, now, old) (ap (λ b. (eqb t.number p && false) || b) rest)
+            let passes : test t.state ≡ true = needed (is_among ns t.number) (test t.state) e parts.0 in
+            let old : is_finished t.state ≡ false = was t.state passes in
+            rw (e, now, old) (ap (λ b. (eqb t.number p && false) || b) rest)
         | inr e ↦ rw e (ap (λ b. (eqb t.number p && is_finished t.state) || b) rest)
       ]
     where
@@ -98,9 +98,9 @@ module _ (s : TaskState) (test : TaskState → Bool) where
       let rest = same_stops now was ns ts parts.1 k in
       elim (cases_Bool (is_among ns t.number)) [
         | inl e ↦
-          let passes : test t.state ≡ true = needed (is_among ns t.number) (test t.state) e parts.0 in
-          let old : is_stopped t.state ≡ false = was t.state passes in
-          rw (e, now, old) rest
+            let passes : test t.state ≡ true = needed (is_among ns t.number) (test t.state) e parts.0 in
+            let old : is_stopped t.state ≡ false = was t.state passes in
+            rw (e, now, old) rest
         | inr e ↦ rw e (ap (λ b. (not (is_stopped t.state) || ltb k t.number) && b) rest)
       ]
     where
@@ -116,8 +116,8 @@ finished_other n (t ∷ ts) p other =
     let rest = finished_other n ts p other in
     elim (cases_Bool (eqb n t.number)) [
       | inl e ↦
-        let apart : eqb t.number p ≡ false = ap (λ m. eqb m p) (sym (eqb-true n t.number e)) ∙ eqb_sym n p ∙ other in
-        rw (e, apart) rest
+          let apart : eqb t.number p ≡ false = ap (λ m. eqb m p) (sym (eqb-true n t.number e)) ∙ eqb_sym n p ∙ other in
+          rw (e, apart) rest
       | inr e ↦ rw e (ap (λ b. (eqb t.number p && is_finished t.state) || b) rest)
     ]
 
@@ -126,12 +126,12 @@ unfolding is_number_finished is_number_added come_to
 finished_self n [] h = absurd (false≢true h)
 finished_self n (t ∷ ts) h = elim (cases_Bool (eqb t.number n)) [
   | inl e ↦
-    let f : eqb n t.number ≡ true = eqb_sym n t.number ∙ e in
-    rw (f, e) refl
+      let f : eqb n t.number ≡ true = eqb_sym n t.number ∙ e in
+      rw (f, e) refl
   | inr e ↦
-    let f : eqb n t.number ≡ false = eqb_sym n t.number ∙ e in
-    let rest : list_any (λ t. eqb t.number n && true) ts ≡ true = rw e at h in
-    rw (f, e) (finished_self n ts rest)
+      let f : eqb n t.number ≡ false = eqb_sym n t.number ∙ e in
+      let rest : list_any (λ t. eqb t.number n && true) ts ≡ true = rw e at h in
+      rw (f, e) (finished_self n ts rest)
 ]
 
 -- one number is stopped
@@ -143,24 +143,26 @@ stops_with n (t ∷ ts) h k =
     let rest : is_below_stops (come_to Stopped (n ∷ []) ts) k ≡ (is_below_stops ts k && (not (is_number_added ts n) || ltb k n)) = stops_with n ts parts.1 k in
     elim (cases_Bool (eqb n t.number)) [
       | inl e ↦
-        let at : t.number ≡ n = sym (eqb-true n t.number e) in
-        let f : eqb t.number n ≡ true = eqb_sym t.number n ∙ e in
-        let was : is_out t.state ≡ true = needed (eqb n t.number) (is_out t.state) e parts.0 in
-        let old : is_stopped t.state ≡ false = out_not_stopped t.state was in
-        rw (e, f, old) (ap (λ b. ltb k t.number && b) rest ∙ ap (λ m. ltb k m && (is_below_stops ts k && (not (is_number_added ts n) || ltb k n))) at ∙ absorbed (is_number_added ts n) (is_below_stops ts k) (ltb k n))
+          let at : t.number ≡ n = sym (eqb-true n t.number e) in
+          let f : eqb t.number n ≡ true = eqb_sym t.number n ∙ e in
+          let was : is_out t.state ≡ true = needed (eqb n t.number) (is_out t.state) e parts.0 in
+          let old : is_stopped t.state ≡ false = out_not_stopped t.state was in
+          rw (e, f, old) (ap (λ b. ltb k t.number && b) rest ∙ ap (λ m. ltb k m && (is_below_stops ts k && (not (is_number_added ts n) || ltb k n))) at ∙ absorbed (is_number_added ts n) (is_below_stops ts k) (ltb k n))
       | inr e ↦
-        let f : eqb t.number n ≡ false = eqb_sym t.number n ∙ e in
-        rw (e, f) (ap (λ b. (not (is_stopped t.state) || ltb k t.number) && b) rest ∙ and_assoc (not (is_stopped t.state) || ltb k t.number) (is_below_stops ts k) (not (is_number_added ts n) || ltb k n))
+          let f : eqb t.number n ≡ false = eqb_sym t.number n ∙ e in
+          rw (e, f) (ap (λ b. (not (is_stopped t.state) || ltb k t.number) && b) rest ∙ and_assoc (not (is_stopped t.state) || ltb k t.number) (is_below_stops ts k) (not (is_number_added ts n) || ltb k n))
     ]
   where
     needed : (a d : Bool) → a ≡ true → (not (a || false) || d) ≡ true → d ≡ true
     needed true d e h = h
     needed false d e h = absurd (false≢true e)
+
     out_not_stopped : (s : TaskState) → is_out s ≡ true → is_stopped s ≡ false
     out_not_stopped Waiting h = refl
     out_not_stopped Out h = refl
     out_not_stopped Finished h = refl
     out_not_stopped Stopped h = absurd (false≢true h)
+
     absorbed : (a l x : Bool) → (x && (l && (not a || x))) ≡ (l && x)
     absorbed true true true = refl
     absorbed true true false = refl
@@ -170,6 +172,7 @@ stops_with n (t ∷ ts) h k =
     absorbed false true false = refl
     absorbed false false true = refl
     absorbed false false false = refl
+
     and_assoc : (a b c : Bool) → (a && (b && c)) ≡ ((a && b) && c)
     and_assoc true b c = refl
     and_assoc false b c = refl
@@ -181,8 +184,8 @@ added_from test [] n h = absurd (false≢true h)
 added_from test (t ∷ ts) n h = elim (cases_Bool (eqb t.number n)) [
   | inl e ↦ rw e refl
   | inr e ↦
-    let rest : some_task test ts n ≡ true = rw e at h in
-    rw e (added_from test ts n rest)
+      let rest : some_task test ts n ≡ true = rw e at h in
+      rw e (added_from test ts n rest)
 ]
 
 -- who needs whom stays
@@ -237,13 +240,14 @@ number_unfinished test w ts up n h = none ts (one_passes test n ts up h)
     needed : (a d : Bool) → a ≡ true → (not a || d) ≡ true → d ≡ true
     needed true d e h = h
     needed false d e h = absurd (false≢true e)
+
     none : (xs : List Task) → list_all (λ t. not (eqb t.number n) || test t.state) xs ≡ true → list_any (λ t. eqb t.number n && is_finished t.state) xs ≡ false
     none [] h = refl
     none (x ∷ xs) h =
         let parts = and_parts (not (eqb x.number n) || test x.state) (list_all (λ t. not (eqb t.number n) || test t.state) xs) h in
         elim (cases_Bool (eqb x.number n)) [
           | inl e ↦
-            let f : is_finished x.state ≡ false = w x.state (needed (eqb x.number n) (test x.state) e parts.0) in
-            rw (e, f) (none xs parts.1)
+              let f : is_finished x.state ≡ false = w x.state (needed (eqb x.number n) (test x.state) e parts.0) in
+              rw (e, f) (none xs parts.1)
           | inr e ↦ rw e (none xs parts.1)
         ]

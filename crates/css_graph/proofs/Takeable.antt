@@ -28,18 +28,18 @@ both_tests r m q h same (x ∷ xs) all =
     let rest = both_tests r m q h same xs (All-tail (λ x. r x ≡ m (task_of x)) x xs all) in
     elim (cases_Bool (m (task_of x))) [
       | inl t ↦
-        let t' : r x ≡ true = here ∙ t in
-        elim (cases_Bool (h (task_of x))) [
-          | inl u ↦
-            let u' : q x ≡ true = same x ∙ u in
-            rw (t', t, u', u) (ap (λ l. x.number ∷ l) rest)
-          | inr u ↦
-            let u' : q x ≡ false = same x ∙ u in
-            rw (t', t, u', u) rest
-        ]
+          let t' : r x ≡ true = here ∙ t in
+          elim (cases_Bool (h (task_of x))) [
+            | inl u ↦
+                let u' : q x ≡ true = same x ∙ u in
+                rw (t', t, u', u) (ap (λ l. x.number ∷ l) rest)
+            | inr u ↦
+                let u' : q x ≡ false = same x ∙ u in
+                rw (t', t, u', u) rest
+          ]
       | inr f ↦
-        let f' : r x ≡ false = here ∙ f in
-        rw (f', f) rest
+          let f' : r x ≡ false = here ∙ f in
+          rw (f', f) rest
     ]
 
 -- what is ready in a list of counted nodes
@@ -100,6 +100,7 @@ waiting_here ts q h w = along ts ts (λ n e. e)
     here t xs e =
         let f : eqb t.number t.number ≡ true = eq-eqb t.number t.number refl in
         rw (f, e) refl
+
     along : (ts xs : List Task) → ((n : ℕ) → some_task is_waiting xs n ≡ true → some_task is_waiting ts n ≡ true) → list_all (some_task is_waiting ts) (map (λ t. t.number) (filter h (filter q xs))) ≡ true
     along ts [] within = refl
     along ts (x ∷ xs) within =
@@ -185,6 +186,7 @@ high_apart (x ∷ xs) r up =
           | inl t ↦ rw (t, e) (absent p n xs parts.1)
           | inr f ↦ rw f (absent p n xs parts.1)
         ]
+
     above : (p : Node → Bool) (n : ℕ) (xs : List Node) → list_all (ltb n) (map (λ x. x.number) xs) ≡ true → list_all (ltb n) (numbers_where p xs) ≡ true
     above p n [] h = refl
     above p n (x ∷ xs) h =
@@ -193,6 +195,7 @@ high_apart (x ∷ xs) r up =
           | inl t ↦ rw t (and_from (ltb n x.number) (list_all (ltb n) (numbers_where p xs)) parts.0 (above p n xs parts.1))
           | inr f ↦ rw f (above p n xs parts.1)
         ]
+
     more : (n : ℕ) (ns ms : List ℕ) → list_all (ltb n) ms ≡ true → list_all (λ m. not (is_among ns m)) ms ≡ true → list_all (λ m. not (eqb n m || is_among ns m)) ms ≡ true
     more n ns [] h k = refl
     more n ns (m ∷ ms) h k =

@@ -50,21 +50,23 @@ state_more s ns n xs = map_twice (λ x. cond (eqb x.number n) (in_state s x) x) 
     or_true : (b : Bool) → (b || true) ≡ true
     or_true true = refl
     or_true false = refl
+
     or_false : (b : Bool) → (b || false) ≡ b
     or_false true = refl
     or_false false = refl
+
     each : (x : Node) → cond (eqb x.number n) (in_state s (in_state_by s ns x)) (in_state_by s ns x) ≡ in_state_by s (ns ++ n ∷ []) x
     each x =
         let pushed : is_among (ns ++ n ∷ []) x.number ≡ (is_among ns x.number || eqb n x.number) = among_push ns n x.number in
         elim (cases_Bool (eqb x.number n)) [
           | inl e ↦
-            let f : eqb n x.number ≡ true = eqb_sym n x.number ∙ e in
-            let now : is_among (ns ++ n ∷ []) x.number ≡ true = pushed ∙ ap (λ b. is_among ns x.number || b) f ∙ or_true (is_among ns x.number) in
-            rw e (state_with x s (cond (is_among (ns ++ n ∷ []) x.number) s x.state) (sym (ap (λ b. cond b s x.state) now)))
+              let f : eqb n x.number ≡ true = eqb_sym n x.number ∙ e in
+              let now : is_among (ns ++ n ∷ []) x.number ≡ true = pushed ∙ ap (λ b. is_among ns x.number || b) f ∙ or_true (is_among ns x.number) in
+              rw e (state_with x s (cond (is_among (ns ++ n ∷ []) x.number) s x.state) (sym (ap (λ b. cond b s x.state) now)))
           | inr e ↦
-            let f : eqb n x.number ≡ false = eqb_sym n x.number ∙ e in
-            let now : is_among (ns ++ n ∷ []) x.number ≡ is_among ns x.number = pushed ∙ ap (λ b. is_among ns x.number || b) f ∙ or_false (is_among ns x.number) in
-            rw e (state_with x (cond (is_among ns x.number) s x.state) (cond (is_among (ns ++ n ∷ []) x.number) s x.state) (sym (ap (λ b. cond b s x.state) now)))
+              let f : eqb n x.number ≡ false = eqb_sym n x.number ∙ e in
+              let now : is_among (ns ++ n ∷ []) x.number ≡ is_among ns x.number = pushed ∙ ap (λ b. is_among ns x.number || b) f ∙ or_false (is_among ns x.number) in
+              rw e (state_with x (cond (is_among ns x.number) s x.state) (cond (is_among (ns ++ n ∷ []) x.number) s x.state) (sym (ap (λ b. cond b s x.state) now)))
         ]
 
 pub state_once : (s : TaskState) (n : ℕ) (xs : List Node) → at_number n (in_state s) xs ≡ map (in_state_by s (n ∷ [])) xs
@@ -88,13 +90,13 @@ less_more cs c xs = map_twice (λ x. cond (eqb x.number c) (one_less_missing x) 
         let pushed : count_where test (cs ++ c ∷ []) ≡ count_where test cs + cond (eqb c x.number) 1 0 = count_push test cs c in
         elim (cases_Bool (eqb x.number c)) [
           | inl e ↦
-            let f : eqb c x.number ≡ true = eqb_sym c x.number ∙ e in
-            let one : count_where test (cs ++ c ∷ []) ≡ count_where test cs + 1 = pushed ∙ ap (λ b. count_where test cs + cond b 1 0) f in
-            rw e (missing_with x ((x.missing - count_where test cs) - 1) (x.missing - count_where test (cs ++ c ∷ [])) (omega (arith, one)))
+              let f : eqb c x.number ≡ true = eqb_sym c x.number ∙ e in
+              let one : count_where test (cs ++ c ∷ []) ≡ count_where test cs + 1 = pushed ∙ ap (λ b. count_where test cs + cond b 1 0) f in
+              rw e (missing_with x ((x.missing - count_where test cs) - 1) (x.missing - count_where test (cs ++ c ∷ [])) (omega (arith, one)))
           | inr e ↦
-            let f : eqb c x.number ≡ false = eqb_sym c x.number ∙ e in
-            let none : count_where test (cs ++ c ∷ []) ≡ count_where test cs + 0 = pushed ∙ ap (λ b. count_where test cs + cond b 1 0) f in
-            rw e (missing_with x (x.missing - count_where test cs) (x.missing - count_where test (cs ++ c ∷ [])) (omega (arith, none)))
+              let f : eqb c x.number ≡ false = eqb_sym c x.number ∙ e in
+              let none : count_where test (cs ++ c ∷ []) ≡ count_where test cs + 0 = pushed ∙ ap (λ b. count_where test cs + cond b 1 0) f in
+              rw e (missing_with x (x.missing - count_where test cs) (x.missing - count_where test (cs ++ c ∷ [])) (omega (arith, none)))
         ]
 
 pub less_tasks : (cs : List ℕ) (xs : List Node) → map task_of (map (less_by cs) xs) ≡ map task_of xs
@@ -134,10 +136,10 @@ module _ (xs : List Node) (bound : Option ℕ) (room : ℕ) (lines : List (ℕ �
       record {
         ordered = ascending_numbers s ns xs tied.ordered;
         counted = All-map (IsCounted (map task_of (map (in_state_by s ns) xs))) (in_state_by s ns) xs (λ k d l. record {
-            earlier = (tied.counted k d l).earlier;
-            different = (tied.counted k d l).different;
-            missing = (tied.counted k d l).missing ∙ count_same (λ p. not (is_number_finished ts p)) (λ p. not (is_number_finished (map task_of (map (in_state_by s ns) xs)) p)) (λ p. ap not (sym (finished p))) (get_or xs k d).producers.items;
-          });
+          earlier = (tied.counted k d l).earlier;
+          different = (tied.counted k d l).different;
+          missing = (tied.counted k d l).missing ∙ count_same (λ p. not (is_number_finished ts p)) (λ p. not (is_number_finished (map task_of (map (in_state_by s ns) xs)) p)) (λ p. ap not (sym (finished p))) (get_or xs k d).producers.items;
+        });
         bound = λ n. tied.bound n ∙ sym (ap (λ us. is_below_stops us n) ts_is ∙ same_stops s test unstopped v ns ts all n);
         consumers = tied.consumers ∙ sym (ap lines_of ts_is ∙ same_lines s ns ts);
       }
@@ -154,13 +156,13 @@ module _ (xs : List Node) (bound : Option ℕ) (room : ℕ) (lines : List (ℕ �
       record {
         ordered = ascending_numbers Stopped ns xs tied.ordered;
         counted = All-map (IsCounted (map task_of (map (in_state_by Stopped ns) xs))) (in_state_by Stopped ns) xs (λ k d l. record {
-            earlier = (tied.counted k d l).earlier;
-            different = (tied.counted k d l).different;
-            missing = (tied.counted k d l).missing ∙ count_same (λ p. not (is_number_finished ts p)) (λ p. not (is_number_finished (map task_of (map (in_state_by Stopped ns) xs)) p)) (λ p. ap not (sym (finished p))) (get_or xs k d).producers.items;
-          });
+          earlier = (tied.counted k d l).earlier;
+          different = (tied.counted k d l).different;
+          missing = (tied.counted k d l).missing ∙ count_same (λ p. not (is_number_finished ts p)) (λ p. not (is_number_finished (map task_of (map (in_state_by Stopped ns) xs)) p)) (λ p. ap not (sym (finished p))) (get_or xs k d).producers.items;
+        });
         bound = λ m.
-          lowered bound m n ∙ ap (λ b. b && ltb m n) (tied.bound m)
-          ∙ sym (ap (λ us. is_below_stops us m) ts_is ∙ stops_with n ts all m ∙ ap (λ b. is_below_stops ts m && (not b || ltb m n)) added);
+            lowered bound m n ∙ ap (λ b. b && ltb m n) (tied.bound m)
+            ∙ sym (ap (λ us. is_below_stops us m) ts_is ∙ stops_with n ts all m ∙ ap (λ b. is_below_stops ts m && (not b || ltb m n)) added);
         consumers = tied.consumers ∙ sym (ap lines_of ts_is ∙ same_lines Stopped ns ts);
       }
     where

@@ -56,24 +56,40 @@ at_number n change nodes = map (λ x. if x.number == n then change x else x) nod
 
 abbrev pub in_state : TaskState → Node → Node
 in_state state x = record {
-  number = x.number; producers = x.producers; high = x.high; state = state; missing = x.missing;
+  number = x.number;
+  producers = x.producers;
+  high = x.high;
+  state = state;
+  missing = x.missing;
 }
 
 abbrev pub one_less_missing : Node → Node
 one_less_missing x = record {
-  number = x.number; producers = x.producers; high = x.high; state = x.state; missing = x.missing - 1;
+  number = x.number;
+  producers = x.producers;
+  high = x.high;
+  state = x.state;
+  missing = x.missing - 1;
 }
 
 -- a node, where its state has changed if its number is in the list
 abbrev pub in_state_by : TaskState → List ℕ → Node → Node
 in_state_by state numbers x = record {
-  number = x.number; producers = x.producers; high = x.high; state = (if is_among numbers x.number then state else x.state); missing = x.missing;
+  number = x.number;
+  producers = x.producers;
+  high = x.high;
+  state = (if is_among numbers x.number then state else x.state);
+  missing = x.missing;
 }
 
 -- a node that misses one less for each time that its number is in the list
 abbrev pub less_by : List ℕ → Node → Node
 less_by numbers x = record {
-  number = x.number; producers = x.producers; high = x.high; state = x.state; missing = x.missing - count_where (λ c. c == x.number) numbers;
+  number = x.number;
+  producers = x.producers;
+  high = x.high;
+  state = x.state;
+  missing = x.missing - count_where (λ c. c == x.number) numbers;
 }
 
 -- numbers in order, and for how many there is room

@@ -1,7 +1,7 @@
 //! The nodes of the added tasks, with queues of those that are ready.
 ghost use Rattle.std.specs.Prelude.{◌≡◌, ℕ, ◌==◌, ◌+◌, ◌<◌, ◌≤◌, Bool, true, false, ◌&&◌, [], ◌∷◌, ◌++◌, length, map, take, IfOk, OnOk, OnErr, IfSome, IfNone, None};
 ghost use Rattle.std.specs.List.{HoldsAt, list_any, list_all};
-ghost use Rattle.std.specs.Prelude.{nat_lt, slice_set, slice_index_or, vec_len, vec_capacity};
+ghost use Rattle.std.specs.Prelude.{count_by, not, nat_lt, slice_set, slice_index_or, vec_len, vec_capacity};
 ghost use Rattle.css_graph.specs.declared.node.Node.{Node};
 ghost use Rattle.css_graph.specs.Tasks.{is_number_finished};
 ghost use Rattle.css_graph.specs.Nodes.{Agenda as Plan, IsAscending, task_of, numbers_where, ready_high, ready_low, at_number, in_state, one_less_missing, in_state_by, less_by, is_below, lower_bound, is_ready, put};
@@ -156,6 +156,13 @@ impl Agenda {
             Some(at) => self.nodes[at].state.is_finished(),
             None => false,
         }
+    }
+
+    /// How many of these numbers are of tasks that aren't finished.
+    pub(crate) fn unfinished(&self, numbers: &[u64]) -> usize
+        ensures { result ≡ count_by (λ n. not (is_number_finished (map task_of self.now.nodes) n)) numbers.now }
+    {
+        numbers.iter().filter(|n| !self.is_finished(**n)).count()
     }
 
     /// How many producers the task of a number misses.

@@ -131,7 +131,12 @@ impl Chain {
 }
 
 /// What is known of a bundle.
-fn chain_of(alloc: Global, agenda: &Agenda, consumers: &Consumers, bundle: &[u64]) -> Result<Chain, NoMemory>
+fn chain_of(
+    alloc: Global,
+    agenda: &Agenda,
+    consumers: &Consumers,
+    bundle: &[u64],
+) -> Result<Chain, NoMemory>
     requires tied { IsTied agenda.now consumers.now }
     requires waiting { list_all (is_number_waiting (map task_of agenda.now.nodes)) bundle.now ≡ true }
     requires different { AreDifferent bundle.now }

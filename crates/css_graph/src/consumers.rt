@@ -37,8 +37,8 @@ impl Model for Consumers {
     ghost view = { λ c. map line_of c.lists.items };
 
     ghost use Rattle.css_graph.specs.Tasks.{is_among};
-ghost use Rattle.css_graph.specs.Nodes.{IsAscending};
-ghost use Rattle.std.specs.Prelude.{List};
+    ghost use Rattle.css_graph.specs.Nodes.{IsAscending};
+    ghost use Rattle.std.specs.Prelude.{List};
 
     ghost invariant = { λ c. IsAscending (map (λ l. l.number) c.lists.items) };
 }
@@ -124,7 +124,12 @@ impl Consumers {
 
     /// Adds a task of greatest number to the lists of its producers, with no list of its own yet. `NoMemory` changes
     /// nothing.
-    pub(crate) fn add(&mut self, alloc: Global, number: u64, producers: &[u64]) -> Result<(), NoMemory>
+    pub(crate) fn add(
+        &mut self,
+        alloc: Global,
+        number: u64,
+        producers: &[u64],
+    ) -> Result<(), NoMemory>
         requires above { list_all (λ line. nat_lt line.0 number) self.old ≡ true }
         requires different { AreDifferent producers.now }
         ensures added { OnOk result (self.new ≡ with_line number producers.now self.old) }

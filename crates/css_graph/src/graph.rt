@@ -67,10 +67,7 @@ impl Graph {
         ensures task { OnOk result (self.new ≡ with_task self.old number producers.now high) }
         ensures unchanged { OnErr result (self.new ≡ self.old) }
     {
-        let missing = producers
-            .iter()
-            .filter(|producer| !self.agenda.is_finished(**producer))
-            .count();
+        let missing = self.agenda.unfinished(producers);
         let node = Node {
             number,
             producers: Vec::from_slice(alloc, producers)?,
@@ -100,9 +97,15 @@ impl Graph {
         if ready == 0 {
             return Ok(Chosen::Nothing);
         }
-        let share = ready.div_ceil(self.workers as usize).min(most as usize);
+        let share = (most as usize).min(ready.div_ceil(self.workers as usize));
         let beginning = self.agenda.first_ready(alloc, share)?;
-        let bundle = chain::continued(alloc, &self.agenda, &self.consumers, beginning, most as usize)?;
+        let bundle = chain::continued(
+            alloc,
+            &self.agenda,
+            &self.consumers,
+            beginning,
+            most as usize,
+        )?;
         self.agenda.set_states(&bundle, TaskState::Out);
         Ok(Chosen::Bundle(bundle))
     }

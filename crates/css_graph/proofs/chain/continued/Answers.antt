@@ -39,10 +39,10 @@ returns-clause-bundle c =
     let room_is : room ≡ c.args.most - length first = first_of (omega (arith, c.saturating_sub-room.ensures, c.len.ensures), search rules) in
     elim c.loop-step-test.branch [
       | else-loop-step-test w ↦
-        let over : room ≤ s = w.loop-step-test.false in
-        ap (λ v. v.items) w.bundle-is ∙ sym (continued_zero ts B (room - s) (omega arith)) ∙ inv.bundle ∙ ap (λ (k : ℕ). continued ts k first) room_is
+          let over : room ≤ s = w.loop-step-test.false in
+          ap (λ v. v.items) w.bundle-is ∙ sym (continued_zero ts B (room - s) (omega arith)) ∙ inv.bundle ∙ ap (λ (k : ℕ). continued ts k first) room_is
       | then-loop-step-test+in_ok-append_next+then-not-branch w ↦
-        let gone : w.in_ok-append_next.field-0 ≡ false = grind arith in
-        let none : next_number ts B ≡ [] = none_from_ends (next_number ts B) w.in_ok-append_next.field-0 w.in_ok-append_next.ensures.ends gone in
-        ap (λ v. v.items) w.bundle-is ∙ w.in_ok-append_next.ensures.next ∙ ap (λ (l : List ℕ). B ++ l) none ∙ append-nil B ∙ sym (ended ts B none (room - s)) ∙ inv.bundle ∙ ap (λ (k : ℕ). continued ts k first) room_is
+          let gone : w.in_ok-append_next.field-0 ≡ false = grind arith in
+          let none : next_number ts B ≡ [] = none_from_ends (next_number ts B) w.in_ok-append_next.field-0 w.in_ok-append_next.ensures.ends gone in
+          ap (λ v. v.items) w.bundle-is ∙ w.in_ok-append_next.ensures.next ∙ ap (λ (l : List ℕ). B ++ l) none ∙ append-nil B ∙ sym (ended ts B none (room - s)) ∙ inv.bundle ∙ ap (λ (k : ℕ). continued ts k first) room_is
     ]

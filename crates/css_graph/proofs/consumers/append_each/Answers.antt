@@ -21,5 +21,5 @@ loop-number-preserved c =
       ordered = subst IsAscending (sym (numbers_stay c.args.consumer (n ∷ []) c.loop-number.lists c.append_at.new.lists lines)) inv.ordered;
       room = c.append_at.ensures.room (drop (i + 1) ns) (among_later ns c.requires.different i 0 l) (room_next c.loop-number.lists ns i 0 l inv.room);
       lines = lines ∙ ap (with_each c.args.consumer (n ∷ [])) inv.lines ∙ each_more c.args.consumer n (take i ns) (different_at ns c.requires.different i 0 l) (map line_of c.args.lists.now)
-      ∙ ap (λ (ms : List ℕ). with_each c.args.consumer ms (map line_of c.args.lists.now)) (sym (take_more ns i 0 l));
+          ∙ ap (λ (ms : List ℕ). with_each c.args.consumer ms (map line_of c.args.lists.now)) (sym (take_more ns i 0 l));
     }

@@ -16,6 +16,6 @@ loop-number-preserved c =
     let l : i < length ns = c.loop-number-test.true in
     record {
       nodes = c.release.ensures.nodes ∙ ap (at_number (get_or ns i 0) one_less_missing) inv.nodes ∙ less_more (take i ns) (get_or ns i 0) xs
-      ∙ ap (λ (ms : List ℕ). map (less_by ms) xs) (sym (take_more ns i 0 l));
+          ∙ ap (λ (ms : List ℕ). map (less_by ms) xs) (sym (take_more ns i 0 l));
       bound = c.release.ensures.bound ∙ inv.bound;
     }

@@ -16,6 +16,6 @@ loop-number-preserved c =
     let l : i < length ns = c.loop-number-test.true in
     record {
       nodes = c.set_state.ensures.nodes ∙ ap (at_number (get_or ns i 0) (in_state c.args.state)) inv.nodes ∙ state_more c.args.state (take i ns) (get_or ns i 0) xs
-      ∙ ap (λ (ms : List ℕ). map (in_state_by c.args.state ms) xs) (sym (take_more ns i 0 l));
+          ∙ ap (λ (ms : List ℕ). map (in_state_by c.args.state ms) xs) (sym (take_more ns i 0 l));
       bound = c.set_state.ensures.bound ∙ inv.bound;
     }

@@ -13,11 +13,11 @@ loop-consumer-preserved c =
     let l : i < length cs = c.loop-consumer-test.true in
     record {
       left = λ n.
-        let counts : count_where (λ m. eqb m n) (take (i + 1) cs) ≡ count_where (λ m. eqb m n) (take i cs) + cond (eqb (get_or cs i 0) n) 1 0 =
-        ap (count_where (λ m. eqb m n)) (take_more cs i 0 l) ∙ count_push (λ m. eqb m n) (take i cs) (get_or cs i 0) in
-        let met = c.in_ok-meet.ensures.left n in
-        let was = inv.left n in
-        omega (arith, counts, met, was);
+          let counts : count_where (λ m. eqb m n) (take (i + 1) cs) ≡ count_where (λ m. eqb m n) (take i cs) + cond (eqb (get_or cs i 0) n) 1 0 =
+          ap (count_where (λ m. eqb m n)) (take_more cs i 0 l) ∙ count_push (λ m. eqb m n) (take i cs) (get_or cs i 0) in
+          let met = c.in_ok-meet.ensures.left n in
+          let was = inv.left n in
+          omega (arith, counts, met, was);
       members = λ n. c.in_ok-meet.ensures.members n ∙ inv.members n;
       candidates = c.in_ok-meet.ensures.candidates;
     }

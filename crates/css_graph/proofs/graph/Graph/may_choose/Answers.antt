@@ -15,9 +15,10 @@ returns c =
     let tied = c.self.invariant.1 in
     let r = c.ready_count.result in
     let e : map task_of plan.nodes ≡ c.args.self.now.tasks = ap (λ (g : TaskGraph). g.tasks) c.self.view_is in
-    let counts : r ≡ length (takeable c.args.self.now.tasks) = c.ready_count.ensures.value ∙ count_is plan.bound plan.nodes tied.bound tied.counted ∙ ap (λ (ts : List Task). length (takeable ts)) e in
-    (λ t. some_takeable c.args.self.now.tasks r counts (ltb-true 0 r t),
+    let counts : r ≡ length (takeable c.args.self.now.tasks) = c.ready_count.ensures.value ∙ count_is plan.bound plan.nodes tied.bound tied.counted ∙ ap (λ (ts : List Task). length (takeable ts)) e in (
+      λ t. some_takeable c.args.self.now.tasks r counts (ltb-true 0 r t),
       λ some. elim (cases_lt 0 r) [
         | inl l ↦ lt-ltb 0 r l
         | inr z ↦ absurd (some (none_takeable c.args.self.now.tasks r counts (omega arith)))
-      ])
+      ],
+    )
