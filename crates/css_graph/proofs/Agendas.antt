@@ -6,7 +6,7 @@ use Rattle.std.proofs.lemmas.Bool.{cases_Bool, eqb-true, or_parts, lt-ltb}
 use Rattle.std.proofs.lemmas.Bool.Decides.{nat_tests}
 use Rattle.css_graph.specs.declared.node.Node.{Node}
 use Rattle.css_graph.specs.declared.state.TaskState.{TaskState}
-use Rattle.css_graph.specs.Tasks.{Task, is_waiting, is_finished, some_task, is_number_finished}
+use Rattle.css_graph.specs.Tasks.{Task, is_waiting, is_out, is_finished, some_task, is_number_added, is_number_out, is_number_finished}
 use Rattle.css_graph.specs.Nodes.{IsAscending, task_of, is_below, lower_bound, is_ready, ready_high, ready_low, numbers_where, below, at_number, put}
 use Rattle.css_graph.specs.Chain.{missing_at}
 use Rattle.css_graph.proofs.Keyed.{any_at, none_absent, keys_where, where_below, set_changed, where_changed, ascending_changed}
@@ -29,6 +29,26 @@ finished_read n xs i x up l at is = any_tasks is_finished xs n ∙ any_read (λ 
 pub finished_absent : (n : ℕ) (xs : List Node) → list_any (λ x. eqb x.number n) xs ≡ false → is_number_finished (map task_of xs) n ≡ false
 unfolding is_number_finished
 finished_absent n xs gone = any_tasks is_finished xs n ∙ none_absent number_of (λ y. is_finished y.state) n xs gone
+
+pub out_read : (n : ℕ) (xs : List Node) (i : ℕ) (x : Node) → IsAscending (map number_of xs) → i < length xs → (get_or xs i x).number ≡ n → x ≡ get_or xs i x → is_number_out (map task_of xs) n ≡ is_out x.state
+unfolding is_number_out
+out_read n xs i x up l at is = any_tasks is_out xs n ∙ any_read (λ y. is_out y.state) n xs i x up l at is
+
+pub out_absent : (n : ℕ) (xs : List Node) → list_any (λ x. eqb x.number n) xs ≡ false → is_number_out (map task_of xs) n ≡ false
+unfolding is_number_out
+out_absent n xs gone = any_tasks is_out xs n ∙ none_absent number_of (λ y. is_out y.state) n xs gone
+
+pub added_read : (n : ℕ) (xs : List Node) (i : ℕ) (x : Node) → IsAscending (map number_of xs) → i < length xs → ((d : Node) → (get_or xs i d).number ≡ n) → is_number_added (map task_of xs) n ≡ true
+unfolding is_number_added
+added_read n xs i x up l at = any_tasks (λ _. true) xs n ∙ any_at number_of (λ _. true) n xs i x up l (at x)
+
+pub added_found : (n : ℕ) (xs : List Node) (i : ℕ) → IsAscending (map number_of xs) → i < length xs → ((d : Node) → (get_or xs i d).number ≡ n) → is_number_added (map task_of xs) n ≡ true
+added_found n [] i up l at = absurd (omega arith)
+added_found n (y ∷ xs) i up l at = added_read n (y ∷ xs) i y up l at
+
+pub added_absent : (n : ℕ) (xs : List Node) → list_any (λ x. eqb x.number n) xs ≡ false → is_number_added (map task_of xs) n ≡ false
+unfolding is_number_added
+added_absent n xs gone = any_tasks (λ _. true) xs n ∙ none_absent number_of (λ _. true) n xs gone
 
 pub missing_read : (n : ℕ) (xs : List Node) (i : ℕ) (x : Node) → IsAscending (map number_of xs) → i < length xs → (get_or xs i x).number ≡ n → x ≡ get_or xs i x → missing_at xs n ≡ x.missing
 missing_read n [] i x up l at is = absurd (omega arith)

@@ -166,7 +166,7 @@ count_same : (f g : ℕ → Bool) → ((p : ℕ) → f p ≡ g p) → (ps : List
 count_same f g same [] = refl
 count_same f g same (p ∷ ps) = ap (λ b. cond b 1 0 + count_where f ps) (same p) ∙ ap (λ k. cond (g p) 1 0 + k) (count_same f g same ps)
 
-tasks_below : (xs : List Node) (n : ℕ) → list_all (λ (t : Task). ltb t.number n) (map task_of xs) ≡ list_all (λ (x : Node). ltb x.number n) xs
+pub tasks_below : (xs : List Node) (n : ℕ) → list_all (λ (t : Task). ltb t.number n) (map task_of xs) ≡ list_all (λ (x : Node). ltb x.number n) xs
 tasks_below [] n = refl
 tasks_below (x ∷ xs) n = ap (λ b. ltb x.number n && b) (tasks_below xs n)
 

@@ -3,7 +3,7 @@ ghost use Rattle.std.specs.Prelude.{◌≡◌, ℕ, ◌==◌, ◌+◌, ◌<◌, 
 ghost use Rattle.std.specs.List.{HoldsAt, list_any, list_all};
 ghost use Rattle.std.specs.Prelude.{count_by, not, nat_lt, slice_set, slice_index_or, vec_len, vec_capacity};
 ghost use Rattle.css_graph.specs.declared.node.Node.{Node};
-ghost use Rattle.css_graph.specs.Tasks.{is_number_finished};
+ghost use Rattle.css_graph.specs.Tasks.{is_number_added, is_number_out, is_number_finished};
 ghost use Rattle.css_graph.specs.Nodes.{Agenda as Plan, IsAscending, task_of, numbers_where, ready_high, ready_low, at_number, in_state, one_less_missing, in_state_by, less_by, is_below, lower_bound, is_ready, put};
 ghost use Rattle.css_graph.specs.Chain.{missing_at, may_follow};
 
@@ -156,6 +156,33 @@ impl Agenda {
             Some(at) => self.nodes[at].state.is_finished(),
             None => false,
         }
+    }
+
+    /// Whether the task of a number is out.
+    pub(crate) fn is_out(&self, number: u64) -> bool
+        ensures { result ≡ is_number_out (map task_of self.now.nodes) number }
+    {
+        match position(&self.nodes, number) {
+            Some(at) => self.nodes[at].state.is_out(),
+            None => false,
+        }
+    }
+
+    /// Whether there is a task of a number.
+    pub(crate) fn is_added(&self, number: u64) -> bool
+        ensures { result ≡ is_number_added (map task_of self.now.nodes) number }
+    {
+        match position(&self.nodes, number) {
+            Some(_at) => true,
+            None => false,
+        }
+    }
+
+    /// Whether a number is above those of all tasks.
+    pub(crate) fn is_last(&self, number: u64) -> bool
+        ensures { result ≡ list_all (λ x. nat_lt x.number number) self.now.nodes }
+    {
+        self.nodes.iter().all(|node| node.number < number)
     }
 
     /// How many of these numbers are of tasks that aren't finished.

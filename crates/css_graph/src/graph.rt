@@ -51,6 +51,44 @@ impl Graph {
         }
     }
 
+    /// Whether the task of this number is out.
+    pub fn is_out(&self, number: u64) -> bool
+        ensures { result ≡ is_number_out self.now.tasks number }
+    {
+        self.agenda.is_out(number)
+    }
+
+    /// Whether a task of this number that needs these others may be added: its number is above all others, and they are
+    /// different tasks that are added. Looks at every task.
+    pub fn may_add(&self, number: u64, producers: &[u64]) -> bool
+        ensures above { IsTrue result → list_all (λ t. nat_lt t.number number) self.now.tasks ≡ true }
+        ensures added { IsTrue result → list_all (is_number_added self.now.tasks) producers.now ≡ true }
+        ensures different { IsTrue result → AreDifferent producers.now }
+        ensures may { list_all (λ t. nat_lt t.number number) self.now.tasks ≡ true → list_all (is_number_added self.now.tasks) producers.now ≡ true → AreDifferent producers.now → IsTrue result }
+    {
+        if !self.is_last(number) {
+            return false;
+        }
+        if !self.are_added(producers) {
+            return false;
+        }
+        are_different(producers)
+    }
+
+    /// Whether a number is above those of all tasks.
+    fn is_last(&self, number: u64) -> bool
+        ensures { result ≡ list_all (λ t. nat_lt t.number number) self.now.tasks }
+    {
+        self.agenda.is_last(number)
+    }
+
+    /// Whether there are tasks of all these numbers.
+    fn are_added(&self, numbers: &[u64]) -> bool
+        ensures { result ≡ list_all (is_number_added self.now.tasks) numbers.now }
+    {
+        numbers.iter().all(|number| self.agenda.is_added(*number))
+    }
+
     /// Adds a task that needs these others, and goes before others where it is `high`. `NoMemory` changes nothing.
     ///
     /// It also makes the room that `done`, `stopped` and `back` need.
@@ -141,5 +179,15 @@ impl Graph {
         ensures { self.new ≡ where_come self.old TaskState.Waiting numbers.now }
     {
         self.agenda.set_states(numbers, TaskState::Waiting);
+    }
+}
+
+/// Whether no two of the numbers are the same.
+fn are_different(numbers: &[u64]) -> bool
+    ensures { IsTrue result ↔ AreDifferent numbers.now }
+{
+    match numbers {
+        [] => true,
+        [first, rest @ ..] => !rest.contains(first) && are_different(rest),
     }
 }

@@ -9,6 +9,8 @@ mod graph;
 mod node;
 mod queue;
 mod state;
+#[cfg(test)]
+mod tests;
 
 pub use chosen::Chosen;
 pub use graph::Graph;

@@ -1,6 +1,6 @@
 //! What has become of a task.
 ghost use Rattle.std.specs.Prelude.{◌≡◌};
-ghost use Rattle.css_graph.specs.Tasks.{is_waiting, is_finished};
+ghost use Rattle.css_graph.specs.Tasks.{is_waiting, is_out, is_finished};
 
 /// What has become of an added task.
 #[derive(Clone, Copy, PartialEq, Eq, Debug)]
@@ -21,6 +21,13 @@ impl TaskState {
         ensures { result ≡ is_waiting self }
     {
         matches!(self, TaskState::Waiting)
+    }
+
+    /// Whether it is `Out`.
+    pub(crate) fn is_out(self) -> bool
+        ensures { result ≡ is_out self }
+    {
+        matches!(self, TaskState::Out)
     }
 
     /// Whether it is `Finished`.
