@@ -1,0 +1,17 @@
+//! The dependence graph, and the bundles of tasks that workers take from it.
+#![tactic(auto)]
+
+mod agenda;
+mod chain;
+mod chosen;
+mod consumers;
+mod graph;
+mod node;
+mod queue;
+mod state;
+#[cfg(test)]
+mod tests;
+
+pub use chosen::Chosen;
+pub use graph::Graph;
+pub use state::TaskState;
