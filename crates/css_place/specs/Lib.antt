@@ -1,0 +1,4 @@
+pub mod Changes
+pub mod Gaps
+pub mod Holes
+pub mod Places

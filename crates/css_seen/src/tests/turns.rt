@@ -1,0 +1,124 @@
+// Threads that take turns, and sleep in between. A wake that is lost would leave one asleep.
+ghost use Rattle.std.specs.Prelude.{◌≡◌, ◌∷◌, ◌++◌, ◌⊎◌, [], false};
+
+use crate::tests::relay::Relay;
+use crate::{Pass, SeenLock};
+use std::alloc::Global;
+use std::process::Abort;
+use std::sync::Wait;
+use std::test::Fail;
+use std::thread;
+use std::thread::Threads;
+
+// Visits where it is the turn of this thread.
+fn try_visit(relay: &mut Relay, me: u64, next: u64, is_turn: bool) -> bool
+    ensures { (relay.new.visits.items ≡ relay.old.visits.items) ⊎ (relay.new.visits.items ≡ relay.old.visits.items ++ me ∷ []) }
+{
+    is_turn && relay.visit(me, next)
+}
+
+// Visits so many times, each time in its turn.
+fn take_turns<R: Wait>(
+    rt: &R,
+    lock: &SeenLock<Relay>,
+    mut pass: Pass<Relay>,
+    me: u64,
+    next: u64,
+    rounds: u64,
+) -> Pass<Relay>
+    requires lock { pass.lock ≡ lock.now }
+    requires outside { pass.inside ≡ false }
+    requires me { pass.number ≡ me }
+    ensures lock { result.lock ≡ lock.now }
+    ensures outside { result.inside ≡ false }
+    ensures number { result.number ≡ me }
+{
+    let mut left = rounds;
+    for _ in rt.forever() {
+        if left == 0 {
+            break;
+        }
+        let mut relay = lock.enter(rt, &mut pass);
+        let is_turn = relay.turn == me;
+        let done = try_visit(&mut relay, me, next, is_turn);
+        lock.leave(&mut pass, relay);
+        if done {
+            left -= 1;
+        }
+        // Where memory ran out in its turn it tries again: nothing new would end the sleep.
+        if left > 0 && (done || !is_turn) {
+            lock.wait(rt, &mut pass);
+        }
+    }
+    pass
+}
+
+// Enters once and leaves the value as it is, and then its pass is dropped.
+fn look_once<R: Wait>(rt: &R, lock: &SeenLock<Relay>, pass: Pass<Relay>)
+    requires lock { pass.lock ≡ lock.now }
+    requires outside { pass.inside ≡ false }
+{
+    let mut mine = pass;
+    let relay = lock.enter(rt, &mut mine);
+    lock.leave(&mut mine, relay);
+}
+
+// Two threads take turns, beside a third whose pass ends before theirs.
+fn relay_of_two<R: Threads + Wait + Sync>(rt: &R, alloc: Global, rounds: u64) -> Option<Relay> {
+    let Ok((lock, mut pass)) = SeenLock::new(alloc, Relay::new(alloc)) else {
+        return None;
+    };
+    let one = lock.split(&mut pass);
+    let two = lock.split(&mut pass);
+    let third = lock.split(&mut pass);
+    let shared = &lock;
+    let (one, two) = thread::join(
+        rt,
+        || -> Pass<Relay>
+            requires { (one.lock ≡ shared.now) × (one.inside ≡ false) × (one.number ≡ 1) }
+            ensures { (result.lock ≡ shared.entry.now) × (result.inside ≡ false) × (result.number ≡ 1) }
+        { take_turns(rt, shared, one, 1, 2, rounds) },
+        || -> Pass<Relay>
+            requires { (two.lock ≡ shared.now) × (two.inside ≡ false) × (two.number ≡ 2) × (third.lock ≡ shared.now) × (third.inside ≡ false) }
+            ensures { (result.lock ≡ shared.entry.now) × (result.inside ≡ false) × (result.number ≡ 2) }
+        { beside_another(rt, shared, two, third, rounds) },
+    );
+    lock.join(&mut pass, one);
+    lock.join(&mut pass, two);
+    Some(lock.enter(rt, &mut pass))
+}
+
+// Takes the second turn, while another thread looks once.
+fn beside_another<R: Threads + Wait + Sync>(
+    rt: &R,
+    lock: &SeenLock<Relay>,
+    two: Pass<Relay>,
+    third: Pass<Relay>,
+    rounds: u64,
+) -> Pass<Relay>
+    requires two { (two.lock ≡ lock.now) × (two.inside ≡ false) × (two.number ≡ 2) }
+    requires third { (third.lock ≡ lock.now) × (third.inside ≡ false) }
+    ensures { (result.lock ≡ lock.now) × (result.inside ≡ false) × (result.number ≡ 2) }
+{
+    let (_, pass) = thread::join(
+        rt,
+        || -> ()
+            requires { (third.lock ≡ lock.now) × (third.inside ≡ false) }
+        { look_once(rt, lock, third) },
+        || -> Pass<Relay>
+            requires { (two.lock ≡ lock.now) × (two.inside ≡ false) × (two.number ≡ 2) }
+            ensures { (result.lock ≡ lock.entry.now) × (result.inside ≡ false) × (result.number ≡ 2) }
+        { take_turns(rt, lock, two, 2, 1, rounds) },
+    );
+    pass
+}
+
+#[test]
+fn two_threads_take_turns(rt: HostRuntime) -> Result<(), Fail> {
+    let relay = relay_of_two(&rt, rt.alloc(), 10_000).ok_or("memory")?;
+    assert_eq!(rt; relay.visits.len(), 20_000);
+    for (i, visitor) in relay.visits.iter().enumerate() {
+        assert_eq!(rt; *visitor, i as u64 % 2 + 1, "visit {i}");
+    }
+    Ok(())
+}
