@@ -1,0 +1,9 @@
+pub mod Blocks
+pub mod Entries
+pub mod Groups
+pub mod Legal
+pub mod Pieces
+pub mod Plans
+pub mod Staged
+pub mod States
+pub mod Transfers

@@ -1,0 +1,143 @@
+//! Transfers of one block.
+ghost use Rattle.std.specs.Prelude.{◌≡◌, [], ◌∷◌, length, replicate, slice_get, if◌then◌else◌};
+ghost use Rattle.css_tags.specs.declared.piece.Piece.{Piece as Part};
+ghost use Rattle.std.specs.Bool.{OnTrue, OnFalse};
+ghost use Rattle.css_tags.specs.Groups.{IsItem, IsWidth, IsMoving, begun_get, begun_put, block_of, left_of, with_moved};
+
+use crate::block::Block;
+use crate::copies::copy_piece;
+use crate::item::Item;
+use crate::piece::{Piece, count, piece_at};
+use css_base::{Buffer, Bytes};
+use std::marker::Model;
+
+/// What the block's bytes are moved from or to.
+#[derive(Drop)]
+pub(crate) enum Other {
+    /// The block gets the buffer's bytes.
+    From(Buffer),
+    /// These bytes get the block's.
+    To(Vec<u8>),
+    /// The block stays as it is.
+    Nothing,
+}
+
+/// The transfer of a block. Contracts see what is planned, how many pieces are moved, and the bytes to which they are.
+#[derive(Drop)]
+pub(crate) struct Transfer {
+    block: Block,
+    other: Other,
+    width: u32,
+    moved: u32,
+}
+
+impl Model for Transfer {
+    ghost use Rattle.css_tags.specs.Groups.{Moving};
+
+    ghost Value = { Moving };
+
+    ghost use Rattle.css_tags.specs.Transfers.{moving, IsTransfer};
+
+    ghost view = { moving };
+
+    ghost invariant = { IsTransfer };
+}
+
+impl Transfer {
+    /// The transfer of a get group's item, of which nothing is moved.
+    pub fn get(item: Item) -> Transfer
+        requires { IsItem item }
+        ensures begun { result ≡ begun_get item }
+        ensures moving { IsMoving result }
+    {
+        match item {
+            Item::From(buffer, block, width) => Transfer {
+                block,
+                other: Other::From(buffer),
+                width,
+                moved: 0,
+            },
+            Item::Fresh(mut block) => {
+                block.clear();
+                Transfer {
+                    block,
+                    other: Other::Nothing,
+                    width: 1,
+                    moved: 0,
+                }
+            }
+            Item::Kept(block) => Transfer {
+                block,
+                other: Other::Nothing,
+                width: 1,
+                moved: 0,
+            },
+        }
+    }
+
+    /// The transfer of a put group's block, in rows of this width, to as many bytes, which are zero. Nothing of it is moved.
+    pub fn put(block: Block, width: u32, bytes: Vec<u8>) -> Transfer
+        requires width { IsWidth width (length block.bytes) }
+        requires zeros { bytes.items ≡ replicate (length block.bytes) 0 }
+        ensures begun { result ≡ begun_put (block, width) }
+        ensures moving { IsMoving result }
+    {
+        Transfer {
+            block,
+            other: Other::To(bytes),
+            width,
+            moved: 0,
+        }
+    }
+
+    /// The first piece that isn't moved, if one is left.
+    fn next_piece(&self) -> Option<Piece>
+        ensures { result ≡ slice_get self.now.planned.pieces self.now.moved }
+    {
+        if let Other::Nothing = &self.other {
+            return None;
+        }
+        let bytes = self.block.length();
+        if self.moved < count(bytes, self.width) {
+            Some(piece_at(bytes, self.width, self.moved))
+        } else {
+            None
+        }
+    }
+
+    /// Moves the next piece with one copy of a slice. False exactly where none is left, and then nothing changes.
+    pub fn step(&mut self) -> bool
+        ensures moved { OnTrue result ((p : Part) × (left_of self.old ≡ p ∷ left_of (with_moved p self.old)) × (self.new ≡ with_moved p self.old)) }
+        ensures none { OnFalse result (left_of self.old ≡ []) }
+        ensures unchanged { OnFalse result (self.new ≡ self.old) }
+        ensures moving { IsMoving self.new }
+    {
+        let Some(piece) = self.next_piece() else {
+            return false;
+        };
+        match &mut self.other {
+            Other::From(buffer) => self.block.copy_in(piece, buffer.bytes()),
+            Other::To(bytes) => copy_piece(piece, self.block.as_slice(), bytes.as_mut_slice()),
+            Other::Nothing => {}
+        }
+        self.moved += 1;
+        true
+    }
+
+    /// Gives the block, and the copy of its bytes in a put group. Takes no memory.
+    pub fn into_parts(self) -> (Block, Option<Bytes>)
+        ensures block { result.0 ≡ block_of self }
+        ensures copy { result.1 ≡ (if self.put then Some self.target else None) }
+    {
+        let Transfer {
+            block,
+            other,
+            width: _,
+            moved: _,
+        } = self;
+        match other {
+            Other::To(bytes) => (block, Some(Bytes::new(bytes))),
+            Other::From(_) | Other::Nothing => (block, None),
+        }
+    }
+}
