@@ -26,7 +26,7 @@ IsPutItem (block, width) = IsWidth width (length block.bytes)
 -- what a get group does with an item: its block gets the buffer's bytes, or zeros, or stays as it is
 abbrev pub planned_get : Item → Planned
 planned_get (From buffer block width) =
-    record { place = block.place; bytes = buffer; pieces = pieces (length block.bytes) width }
+    record { place = block.place; bytes = buffer; pieces = pieces (length buffer) width }
 planned_get (Fresh block) = record { place = block.place; bytes = replicate (length block.bytes) 0; pieces = [] }
 planned_get (Kept block) = record { place = block.place; bytes = block.bytes; pieces = [] }
 
@@ -83,9 +83,13 @@ block_of m = record { place = m.planned.place; bytes = if m.put then m.planned.b
 abbrev pub blocks_of : Underway → List Contents
 blocks_of group = map block_of group.items
 
+-- the item once the piece's bytes are copied
+abbrev pub with_copied : Piece → Moving → Moving
+with_copied p m = record m { target = copied p m.planned.bytes m.target }
+
 -- the item once its piece p, the next one, is moved
 abbrev pub with_moved : Piece → Moving → Moving
-with_moved p m = record m { moved = m.moved + 1; target = copied p m.planned.bytes m.target }
+with_moved p m = record (with_copied p m) { moved = m.moved + 1 }
 
 -- p is the first piece of the group that isn't moved, and was moved
 pub record MovesNext (old new : Underway) (p : Piece) : Type 0 where

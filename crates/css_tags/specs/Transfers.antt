@@ -11,7 +11,7 @@ use Rattle.css_tags.specs.Groups.{IsWidth, Moving, IsMoving}
 abbrev pub moving_by : Other → Contents → ℕ → ℕ → Moving
 moving_by (From buffer) block width moved = record {
   put = false;
-  planned = record { place = block.place; bytes = buffer; pieces = pieces (length block.bytes) width };
+  planned = record { place = block.place; bytes = buffer; pieces = pieces (length buffer) width };
   moved = moved;
   target = block.bytes;
 }
@@ -32,5 +32,5 @@ abbrev pub moving : Inside → Moving
 moving a = moving_by a.other a.block a.width a.moved
 
 pub record IsTransfer (a : Inside) : Type 0 where
-  pub width : IsWidth a.width (length a.block.bytes)
+  pub width : IsWidth a.width (length (moving a).planned.bytes)
   pub moving : IsMoving (moving a)

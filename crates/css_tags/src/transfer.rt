@@ -1,8 +1,9 @@
 //! Transfers of one block.
-ghost use Rattle.std.specs.Prelude.{◌≡◌, [], ◌∷◌, length, replicate, slice_get, if◌then◌else◌};
+ghost use Rattle.std.specs.Prelude.{◌≡◌, ◌+◌, ◌<◌, ◌≤◌, ◌^◌, ℕ, [], ◌∷◌, IfSome, length, replicate, slice_get, if◌then◌else◌};
+ghost use Rattle.css_tags.specs.Transfers.{moving_by};
 ghost use Rattle.css_tags.specs.declared.piece.Piece.{Piece as Part};
 ghost use Rattle.std.specs.Bool.{OnTrue, OnFalse};
-ghost use Rattle.css_tags.specs.Groups.{IsItem, IsWidth, IsMoving, begun_get, begun_put, block_of, left_of, with_moved};
+ghost use Rattle.css_tags.specs.Groups.{IsItem, IsWidth, IsMoving, begun_get, begun_put, block_of, left_of, with_copied, with_moved};
 
 use crate::block::Block;
 use crate::copies::copy_piece;
@@ -92,7 +93,8 @@ impl Transfer {
 
     /// The first piece that isn't moved, if one is left.
     fn next_piece(&self) -> Option<Piece>
-        ensures { result ≡ slice_get self.now.planned.pieces self.now.moved }
+        ensures value { result ≡ slice_get self.now.planned.pieces self.now.moved }
+        ensures small { IfSome result (λ p. self.now.moved + 1 < 2 ^ 32) }
     {
         if let Other::Nothing = &self.other {
             return None;
@@ -115,11 +117,7 @@ impl Transfer {
         let Some(piece) = self.next_piece() else {
             return false;
         };
-        match &mut self.other {
-            Other::From(buffer) => self.block.copy_in(piece, buffer.bytes()),
-            Other::To(bytes) => copy_piece(piece, self.block.as_slice(), bytes.as_mut_slice()),
-            Other::Nothing => {}
-        }
+        copy_over(&mut self.block, &mut self.other, piece);
         self.moved += 1;
         true
     }
@@ -139,5 +137,18 @@ impl Transfer {
             Other::To(bytes) => (block, Some(Bytes::new(bytes))),
             Other::From(_) | Other::Nothing => (block, None),
         }
+    }
+}
+
+/// Copies the piece's bytes, from the buffer to the block or from the block to its copy.
+fn copy_over(block: &mut Block, other: &mut Other, piece: Piece)
+    requires same { length (moving_by other.old block.old 1 0).target ≡ length (moving_by other.old block.old 1 0).planned.bytes }
+    requires inside { piece.start + piece.length ≤ length (moving_by other.old block.old 1 0).planned.bytes }
+    ensures { (width moved : ℕ) → moving_by other.new block.new width moved ≡ with_copied piece (moving_by other.old block.old width moved) }
+{
+    match other {
+        Other::From(buffer) => block.copy_in(piece, buffer.bytes()),
+        Other::To(bytes) => copy_piece(piece, block.as_slice(), bytes.as_mut_slice()),
+        Other::Nothing => {}
     }
 }
