@@ -83,6 +83,10 @@ block_of m = record { place = m.planned.place; bytes = if m.put then m.planned.b
 abbrev pub blocks_of : Underway → List Contents
 blocks_of group = map block_of group.items
 
+-- in a put group the copy of an item's bytes, as it is now
+abbrev pub copy_of : Moving → List (List ℕ)
+copy_of m = if m.put then m.target ∷ [] else []
+
 -- the item once the piece's bytes are copied
 abbrev pub with_copied : Piece → Moving → Moving
 with_copied p m = record m { target = copied p m.planned.bytes m.target }
@@ -130,4 +134,4 @@ pub record HasRoom (group : Underway) (blocks block_room copies copy_room : ℕ)
   pub no_block : blocks ≡ 0
   pub for_blocks : length group.items ≤ block_room
   pub no_copy : copies ≡ 0
-  pub for_copies : group.put ≡ true → length group.items ≤ copy_room
+  pub for_copies : length group.items ≤ copy_room

@@ -4,6 +4,8 @@ pub mod Groups
 pub mod Legal
 pub mod Pieces
 pub mod Plans
+pub mod Refusals
+pub mod Slots
 pub mod Staged
 pub mod States
 pub mod Transfers

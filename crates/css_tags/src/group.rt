@@ -4,7 +4,7 @@ ghost use Rattle.std.specs.Bool.{OnTrue, OnFalse};
 ghost use Rattle.std.specs.List.{flat_map, sum_by};
 ghost use Rattle.css_tags.specs.declared.piece.Piece.{Piece as Part};
 ghost use Rattle.css_tags.specs.Plans.{bytes_in, bytes_of};
-ghost use Rattle.css_tags.specs.Groups.{planned_get, planned_put, IsItem, IsPutItem, IsMoving, begun_get, begun_put, blocks_of, block_after, left, left_of, plan_of, MovesNext, StepsAt};
+ghost use Rattle.css_tags.specs.Groups.{planned_get, planned_put, IsItem, IsPutItem, IsMoving, begun_get, begun_put, blocks_of, copy_of, block_after, left, left_of, plan_of, MovesNext, StepsAt};
 
 use crate::block::Block;
 use crate::item::Item;
@@ -63,6 +63,9 @@ impl Group {
         let Ok(blocks) = Vec::with_capacity(alloc, items.len()) else {
             return Err(items);
         };
+        let Ok(copies) = Vec::with_capacity(alloc, items.len()) else {
+            return Err(items);
+        };
         for item in items {
             transfers.push_reserved(Transfer::get(item));
         }
@@ -72,7 +75,7 @@ impl Group {
             next: 0,
             bytes,
             blocks,
-            copies: Vec::new(alloc),
+            copies,
         })
     }
 
@@ -98,8 +101,8 @@ impl Group {
         let Ok(copies) = Vec::with_capacity(alloc, blocks.len()) else {
             return Err(blocks);
         };
-        for ((block, width), target) in blocks.into_iter().zip(targets) {
-            transfers.push_reserved(Transfer::put(block, width, target));
+        for (item, target) in blocks.into_iter().zip(targets) {
+            transfers.push_reserved(Transfer::put(item, target));
         }
         Ok(Group {
             put: true,
@@ -141,9 +144,25 @@ impl Group {
         }
     }
 
+    /// Whether it is a put group.
+    pub(crate) fn is_put(&self) -> bool
+        ensures { result ≡ self.now.put }
+    {
+        self.put
+    }
+
     /// Gives the blocks as they are, in order of the items. Takes no memory.
     pub fn into_blocks(self) -> Vec<Block>
         ensures { result.items ≡ blocks_of self }
+    {
+        let (blocks, _) = self.into_parts();
+        blocks
+    }
+
+    /// Gives the blocks as they are, and in a put group the copies as they are, in order of the items. Takes no memory.
+    pub(crate) fn into_parts(self) -> (Vec<Block>, Vec<Bytes>)
+        ensures blocks { result.0.items ≡ blocks_of self }
+        ensures copies { result.1.items ≡ flat_map copy_of self.items }
     {
         let Group {
             put: _,
@@ -151,13 +170,16 @@ impl Group {
             next: _,
             bytes: _,
             mut blocks,
-            copies: _,
+            mut copies,
         } = self;
         for transfer in transfers {
-            let (block, _) = transfer.into_parts();
+            let (block, copy) = transfer.into_parts();
             blocks.push_reserved(block);
+            if let Some(copy) = copy {
+                copies.push_reserved(copy);
+            }
         }
-        blocks
+        (blocks, copies)
     }
 }
 

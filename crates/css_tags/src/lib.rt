@@ -2,17 +2,22 @@
 #![tactic(auto)]
 
 mod block;
+mod channel;
 mod copies;
 mod entry;
 mod group;
 mod item;
 mod piece;
+mod slot;
+mod staged;
 mod transfer;
 
 pub use block::Block;
+pub use channel::{Channel, IssueRefused, NotYet};
 pub use entry::{ChannelEntry, Step};
 pub use group::Group;
 pub use item::Item;
+pub use staged::Staged;
 
 #[cfg(test)]
 mod tests;

@@ -3,7 +3,7 @@ ghost use Rattle.std.specs.Prelude.{◌≡◌, ◌+◌, ◌<◌, ◌≤◌, ◌^
 ghost use Rattle.css_tags.specs.Transfers.{moving_by};
 ghost use Rattle.css_tags.specs.declared.piece.Piece.{Piece as Part};
 ghost use Rattle.std.specs.Bool.{OnTrue, OnFalse};
-ghost use Rattle.css_tags.specs.Groups.{IsItem, IsWidth, IsMoving, begun_get, begun_put, block_of, left_of, with_copied, with_moved};
+ghost use Rattle.css_tags.specs.Groups.{IsItem, IsPutItem, IsMoving, begun_get, begun_put, block_of, left_of, with_copied, with_moved};
 
 use crate::block::Block;
 use crate::copies::copy_piece;
@@ -76,13 +76,14 @@ impl Transfer {
         }
     }
 
-    /// The transfer of a put group's block, in rows of this width, to as many bytes, which are zero. Nothing of it is moved.
-    pub fn put(block: Block, width: u32, bytes: Vec<u8>) -> Transfer
-        requires width { IsWidth width (length block.bytes) }
-        requires zeros { bytes.items ≡ replicate (length block.bytes) 0 }
-        ensures begun { result ≡ begun_put (block, width) }
+    /// The transfer of a put group's block, given with the width of its rows, to as many bytes, which are zero. Nothing of it is moved.
+    pub fn put(item: (Block, u32), bytes: Vec<u8>) -> Transfer
+        requires width { IsPutItem item }
+        requires zeros { bytes.items ≡ replicate (length item.0.bytes) 0 }
+        ensures begun { result ≡ begun_put item }
         ensures moving { IsMoving result }
     {
+        let (block, width) = item;
         Transfer {
             block,
             other: Other::To(bytes),

@@ -6,9 +6,9 @@ use Rattle.css_tags.proofs.transfer.Transfer.put.Goals as goal
 pub invariant_of-result : goal.invariant_of-result
 invariant_of-result c = record {
   width = c.requires.width;
-  moving = moving_first _ c.args.width c.requires.width refl (ap length c.requires.zeros ∙ length-replicate _ 0) refl;
+  moving = moving_first _ _ c.requires.width refl (ap length c.requires.zeros ∙ length-replicate _ 0) refl;
 }
 
 pub returns-clause-moving : goal.returns-clause-moving
 returns-clause-moving c =
-    moving_first _ c.args.width c.requires.width refl (ap length c.requires.zeros ∙ length-replicate _ 0) refl
+    moving_first _ _ c.requires.width refl (ap length c.requires.zeros ∙ length-replicate _ 0) refl

@@ -26,7 +26,7 @@ pub overflow_add-self : goal.overflow_add-self
 overflow_add-self c =
     let small = rw c.in-Some.is at c.next_piece.ensures.small in
     let seen : (moving_by c.self.inside.other c.self.inside.block c.self.inside.width c.self.inside.moved).moved
-        ≡ c.args.self.now.moved = ap (λ (m : Moving). m.moved) c.self.view_is in
+    ≡ c.args.self.now.moved = ap (λ (m : Moving). m.moved) c.self.view_is in
     let own = moved_is c.self.inside.other c.self.inside.block c.self.inside.width c.self.inside.moved in
     omega (arith, small, seen, own)
 
