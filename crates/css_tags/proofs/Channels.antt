@@ -1,19 +1,20 @@
 -- A channel after one more entry: its slots, its queue and its room.
-use Rattle.std.proofs.Common.{◌≡◌, ◌≢◌, ◌+◌, ◌*◌, ◌<◌, ◌≤◌, ◌^◌, ◌⊎◌, ℕ, zero, suc, Option, Some, None, List, [], ◌∷◌, ◌++◌, length, drop, set, get_or, remove, arith, refl, sym, ap, ◌∙◌, subst, inl, inr, eqb, false, All, AllPairs, Contains, length-append, lit<}
+use Rattle.std.proofs.Common.{◌≡◌, ◌≢◌, ◌+◌, ◌*◌, ◌<◌, ◌≤◌, ◌^◌, ◌⊎◌, ℕ, zero, suc, Option, Some, None, List, [], ◌∷◌, ◌++◌, length, drop, set, get_or, remove, arith, refl, sym, ap, ◌∙◌, subst, inl, inr, eqb, true, false, not, Bool, IsTrue, Result, Ok, Err, is_err, OnOk, IfSome, IfNone, replicate, All, AllPairs, Contains, length-append, lit<}
 use Rattle.std.specs.List.{sum_by}
-use Rattle.std.proofs.lemmas.Bool.{cases_eq}
-use Rattle.std.proofs.lemmas.List.{append_assoc, get_or-set_same, get_or-set_other, length-set}
-use Rattle.std.proofs.lemmas.List.Elements.{All-push, All-weaker, All-get_or, All-from_get_or, Contains-push, Contains-append_left, filter-append}
+use Rattle.std.proofs.lemmas.Bool.{cases_eq, ne_eqb}
+use Rattle.std.proofs.lemmas.List.{append_assoc, get_or-set_same, get_or-set_other, length-set, length-replicate, get_or-replicate}
+use Rattle.std.proofs.lemmas.List.Elements.{All-nil, All-head, All-push, All-weaker, All-get_or, All-from_get_or, Contains-push, Contains-append_left, filter-append}
 use Rattle.std.proofs.lemmas.List.Quantifiers.{all_pairs_push}
 use Rattle.std.proofs.lemmas.List.Sums.{sum_by-set, sum_by-cons, sum_by_more_le}
 use Rattle.css_tags.specs.declared.slot.Slot.{Slot}
 use Rattle.css_tags.specs.declared.slot.Slot.TheVariants as slots
+use Rattle.css_tags.specs.Plans.{Plan}
 use Rattle.css_tags.specs.Entries.{Entry, issue, out, finish, collect}
 use Rattle.css_tags.specs.Groups.{Underway, left, plan_of}
 use Rattle.css_tags.specs.Legal.{entries_on}
-use Rattle.css_tags.specs.States.{last_on, IsFree, IsIssued, IsBefore, IsIssuedFirst}
+use Rattle.css_tags.specs.States.{last_on, IsFree, IsIssued, IsBefore, IsIssuedFirst, IsLeastFree}
 use Rattle.css_tags.specs.Slots.{IsFreeSlot, IsSlot, IsQueue, IsChannel, to_come, waiting}
-use Rattle.css_tags.proofs.Tags.{on_own, on_other, entries_other, last_own, last_other, state_number, issued_number, slot_number, slot_state, slot_other, slot_issued, slot_out, slot_finished, slot_collected, issued_last, free_slot}
+use Rattle.css_tags.proofs.Tags.{on_own, on_other, entries_other, last_own, last_other, state_number, issued_number, slot_number, slot_state, slot_other, slot_issued, slot_out, slot_finished, slot_collected, issued_last, free_slot, taken_low, issued_taken, out_taken, out_slot, free_from_slot, slot_from_free}
 
 -- the slots after one is replaced
 each_after : (h : List Entry) (all : List Slot) (tag : ℕ) (e : Entry) (slot : Slot) → length all ≡ 32 → tag < 32
@@ -41,8 +42,7 @@ issued_before h e t other (plan, is) = (plan, sym (last_other t h e other) ∙ i
 before_after : (h : List Entry) (e : Entry) (a b : ℕ) → e.tag ≢ a → IsBefore h a b → IsBefore (h ++ e ∷ []) a b
 before_after h e a b other (earlier, later, parts, none, some) =
     let more : entries_on b (later ++ e ∷ []) ≡ entries_on b later ++ entries_on b (e ∷ []) = filter-append (λ x. eqb x.tag b) later (e ∷ []) in
-    let long = ap length more ∙ length-append (entries_on b later) (entries_on b (e ∷ [])) in
-    (
+    let long = ap length more ∙ length-append (entries_on b later) (entries_on b (e ∷ [])) in (
       earlier,
       later ++ e ∷ [],
       ap (λ es. es ++ e ∷ []) parts ∙ append_assoc earlier later (e ∷ []),
@@ -283,3 +283,121 @@ channel_collected h all queue capacity tag group is low there =
     (not_issued h tag (slots.Finished group) was (λ n. omega (arith, n)))
     (not_issued (h ++ e ∷ []) tag slots.Free own (λ n. omega (arith, n))) (omega (arith, wait, zero')) in
     channel_after h all queue queue capacity capacity tag e slots.Free is low refl own queued room.0 room.1
+
+-- ---- what the queue tells
+
+pub queue_tells : (h : List Entry) (all : List Slot) (queue : List ℕ) → IsQueue h all queue → (b : Bool)
+    → b ≡ eqb (length queue) 0
+    → (IsTrue (not b) → (tag : ℕ) × IsIssued tag h) × (((tag : ℕ) × IsIssued tag h) → IsTrue (not b))
+queue_tells h all [] is true empty = (λ none. absurd (let wrong = none in cc), λ (tag, issued). (let there = is.complete tag issued in absurd (omega (arith, there.1))))
+queue_tells h all [] is false empty = absurd cc
+queue_tells h all (t ∷ queue) is true empty =
+    absurd (let apart : eqb (length (t ∷ queue)) 0 ≡ false = ne_eqb (length (t ∷ queue)) 0 (λ n. omega (arith, n)) in cc)
+queue_tells h all (t ∷ queue) is false empty =
+    (λ _. (t, All-head (λ t. IsIssued t h) t queue is.issued), λ _. tt)
+
+pub none_issued : (h : List Entry) (all : List Slot) (queue : List ℕ) → IsQueue h all queue
+    → true ≡ eqb (length queue) 0 → (tag : ℕ) → IsIssued tag h → ⊥
+none_issued h all queue is empty tag issued =
+    let wrong = (queue_tells h all queue is true empty).1 (tag, issued) in
+    absurd cc
+
+pub some_waits : (queue : List ℕ) → false ≡ eqb (length queue) 0 → 0 < length queue
+some_waits [] some = absurd cc
+some_waits (t ∷ queue) some = omega arith
+
+pub head_facts : (h : List Entry) (all : List Slot) (queue : List ℕ) (capacity tag : ℕ) → IsChannel h all queue capacity
+    → 0 < length queue → tag ≡ get_or queue 0 tag → IsIssued tag h × (tag < 32) × (queue ≡ tag ∷ drop 1 queue)
+head_facts h all [] capacity tag is some first = absurd (omega (arith, some))
+head_facts h all (t ∷ queue) capacity tag is some first =
+    let At : ℕ → Type 0 = λ t. IsIssued t h in
+    let issued : IsIssued tag h = subst At (sym first) (All-head At t queue is.queued.issued) in
+    (issued, taken_low h tag is.tags (issued_taken h tag issued), ap (λ t. t ∷ queue) (sym first))
+
+first_of_queue : (h : List Entry) (all : List Slot) (tag : ℕ) (queue : List ℕ) → IsQueue h all (tag ∷ queue)
+    → (other : ℕ) → IsIssued other h → other ≢ tag → IsBefore h tag other
+first_of_queue h all tag queue is other issued apart =
+    let At : ℕ → Type 0 = IsBefore h tag in
+    let there = contains_rest tag other queue (λ same. apart (sym same)) (is.complete other issued) in
+    let below : there.0 < length queue = there.1 in
+    subst At there.2 (is.order 0 (suc there.0) other (omega arith) (omega (arith, below)))
+
+pub first_issued : (h : List Entry) (all : List Slot) (queue : List ℕ) (capacity tag : ℕ) (group : Underway)
+    → IsChannel h all queue capacity → tag < 32 → queue ≡ tag ∷ drop 1 queue → get_or all tag slots.Free ≡ slots.Issued group
+    → IsIssuedFirst h tag (plan_of group)
+first_issued h all queue capacity tag group is low whole there =
+    let At : Slot → Type 0 = IsSlot h tag in
+    let Of : List ℕ → Type 0 = IsQueue h all in
+    record {
+      issued = issued_last h tag group (subst At there (is.each tag low));
+      first = first_of_queue h all tag (drop 1 queue) (subst Of whole is.queued);
+    }
+
+-- ---- what an entry of the history tells of a slot, and room for the next one
+
+pub out_facts : (h : List Entry) (all : List Slot) (queue : List ℕ) (capacity tag : ℕ) (plan : Plan)
+    → IsChannel h all queue capacity → last_on tag h ≡ Some (out tag plan)
+    → (tag < 32) × (get_or all tag slots.Free ≡ slots.Out) × (1 ≤ to_come (get_or all tag slots.Free))
+out_facts h all queue capacity tag plan is last =
+    let low = taken_low h tag is.tags (out_taken h tag (plan, last)) in
+    let slot = out_slot h tag (get_or all tag slots.Free) (is.each tag low) (plan, last) in
+    let two : to_come (get_or all tag slots.Free) ≡ 2 = ap to_come slot in
+    (low, slot, omega (arith, two))
+
+pub room_left : (h : List Entry) (all : List Slot) (queue : List ℕ) (capacity tag : ℕ) → IsChannel h all queue capacity
+    → tag < 32 → 1 ≤ to_come (get_or all tag slots.Free) → length h < capacity
+room_left h all queue capacity tag is low some =
+    let count = is.count in
+    let part = sum_by_more_le to_come all tag slots.Free (omega (arith, count)) in
+    let room = is.room in
+    omega (arith, part, room, some)
+
+pub reserved : {T E : Type 0} (r : Result T E) (P : Type 0) → is_err r ≡ false → OnOk r P → P
+reserved (Ok x) P ok is = is
+reserved (Err e) P ok is = absurd cc
+
+pub channel_new : (capacity : ℕ) → IsChannel [] (replicate 32 slots.Free) [] capacity
+channel_new capacity =
+    let all : List Slot = replicate 32 slots.Free in
+    let none : sum_by to_come all ≡ 0 = refl in
+    record {
+      count = length-replicate 32 slots.Free;
+      tags = All-nil (λ (e : Entry). e.tag < 32);
+      each = λ tag low. (let At : Slot → Type 0 = IsSlot [] tag in
+          subst At (sym (get_or-replicate 32 tag slots.Free slots.Free low))
+          (record { whole = []; begun = []; entries = refl; state = refl }));
+      queued = record {
+        number = refl;
+        issued = All-nil (λ tag. IsIssued tag []);
+        complete = λ tag issued. absurd (let some = issued.1 in cc);
+        order = λ i j d low below. absurd (omega (arith, below));
+      };
+      room = omega (arith, none);
+      small = omega (arith, none);
+    }
+
+-- ---- the least free tag
+
+pub least_free : (h : List Entry) (all : List Slot) (r : Option ℕ)
+    → ((tag : ℕ) → tag < 32 → IsSlot h tag (get_or all tag slots.Free)) → IfSome r (λ t. t < 32)
+    → IfSome r (λ t. IsFreeSlot (get_or all t slots.Free))
+    → IfSome r (λ t. (other : ℕ) → other < t → ¬ IsFreeSlot (get_or all other slots.Free))
+    → IfSome r (λ t. IsLeastFree h t)
+least_free h all None each below free least = tt
+least_free h all (Some t) each below free least = record {
+  below = below;
+  free = free_from_slot h t (get_or all t slots.Free) (each t below) free;
+  least = λ other low is. least other low
+      (slot_from_free h other (get_or all other slots.Free) (each other (omega (arith, low, below))) is);
+}
+
+pub no_free : (h : List Entry) (all : List Slot) (r : Option ℕ)
+    → ((tag : ℕ) → tag < 32 → IsSlot h tag (get_or all tag slots.Free))
+    → IfNone r ((t : ℕ) → t < 32 → ¬ IsFreeSlot (get_or all t slots.Free))
+    → IfNone r ((t : ℕ) → t < 32 → ¬ IsFree t h)
+no_free h all None each none = λ t low is. none t low (slot_from_free h t (get_or all t slots.Free) (each t low) is)
+no_free h all (Some t) each none = tt
+
+-- the group of a finished slot has no piece left
+pub finished_moved : (h : List Entry) (tag : ℕ) (group : Underway) → IsSlot h tag (slots.Finished group) → left group ≡ []
+finished_moved h tag group is = is.state.0

@@ -12,7 +12,7 @@ use Rattle.css_tags.specs.declared.piece.Piece.{Piece}
 use Rattle.css_tags.specs.declared.item.Item.{Item}
 use Rattle.css_tags.specs.Blocks.{Contents}
 use Rattle.css_tags.specs.Plans.{Planned, bytes_in, bytes_of}
-use Rattle.css_tags.specs.Groups.{Moving, Underway, IsMoving, IsGroup, IsPutItem, StepsAt, MovesNext, begun_get, begun_put, planned_get, planned_put, left, left_of, with_moved, block_of, blocks_of, block_after, plan_of}
+use Rattle.css_tags.specs.Groups.{Moving, Underway, IsMoving, IsGroup, IsPutItem, StepsAt, MovesNext, begun_get, begun_put, planned_get, planned_put, left, left_of, with_moved, block_of, blocks_of, block_after, copy_of, plan_of}
 
 abbrev head_or : List ℕ → List (List ℕ) → List ℕ
 head_or d [] = d
@@ -192,3 +192,39 @@ first_of_zip (x ∷ xs) (t ∷ ts) same = ap (λ ms. begun_put x ∷ ms) (first_
 -- the sum of the pieces of a put item
 pub bytes_of_put : (x : Contents × ℕ) → IsPutItem x → bytes_of (planned_put x) ≡ length x.0.bytes
 bytes_of_put x is = sum_pieces (length x.0.bytes) x.1 is
+
+-- a group of which nothing is moved
+pub group_begun : (put : Bool) (items : List Moving) → All IsMoving items → All (λ (m : Moving). m.put ≡ put) items
+    → IsGroup (record { put = put; items = items }) 0
+group_begun put items moving sides = record { moving = moving; sides = sides; number = omega arith; passed = refl }
+
+abbrev bytes_at : Planned → List ℕ
+bytes_at item = item.bytes
+
+-- once no piece is left, the copies of a put group are the planned bytes, and a get group has none
+copies_put : (ms : List Moving) → All IsMoving ms → All (λ (m : Moving). m.put ≡ true) ms → flat_map left_of ms ≡ []
+    → flat_map copy_of ms ≡ map bytes_at (map planned_of ms)
+copies_put [] each sides none = refl
+copies_put (m ∷ ms) each sides none =
+    let Side : Moving → Type 0 = λ m. m.put ≡ true in
+    let first = (All-head IsMoving m ms each).whole (nil_left (left_of m) (flat_map left_of ms) none) in
+    let rest = copies_put ms (All-tail IsMoving m ms each) (All-tail Side m ms sides)
+    (nil_right (left_of m) (flat_map left_of ms) none) in
+    ap (λ b. cond b (m.target ∷ []) [] ++ flat_map copy_of ms) (All-head Side m ms sides)
+    ∙ ap (λ bs. bs ∷ flat_map copy_of ms) first ∙ ap (λ bss. bytes_at m.planned ∷ bss) rest
+
+copies_get : (ms : List Moving) → All (λ (m : Moving). m.put ≡ false) ms → flat_map copy_of ms ≡ []
+copies_get [] sides = refl
+copies_get (m ∷ ms) sides =
+    let Side : Moving → Type 0 = λ m. m.put ≡ false in
+    ap (λ b. cond b (m.target ∷ []) [] ++ flat_map copy_of ms) (All-head Side m ms sides)
+    ∙ copies_get ms (All-tail Side m ms sides)
+
+copies_by : (put : Bool) (ms : List Moving) → All IsMoving ms → All (λ (m : Moving). m.put ≡ put) ms
+    → flat_map left_of ms ≡ [] → flat_map copy_of ms ≡ cond put (map bytes_at (map planned_of ms)) []
+copies_by true ms each sides none = copies_put ms each sides none
+copies_by false ms each sides none = copies_get ms sides
+
+pub whole_copies : (group : Underway) (next : ℕ) → IsGroup group next → left group ≡ []
+    → flat_map copy_of group.items ≡ cond group.put (map (λ (item : Planned). item.bytes) (plan_of group).items) []
+whole_copies group next is none = copies_by group.put group.items is.moving is.sides none

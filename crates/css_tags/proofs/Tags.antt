@@ -247,15 +247,18 @@ begun_legal : (h : List Entry) (tag : ℕ) (whole : List Plan) (begun : List Ent
     → entries_on tag h ≡ flat_map (round tag) whole ++ begun → (rest : List Entry) → begun ++ rest ≡ round tag plan
     → (plans : List Plan) × IsPrefix (entries_on tag h) (flat_map (round tag) plans)
 begun_legal h tag whole begun plan entries rest one =
-    (whole ++ plan ∷ [], rest, ap (λ es. es ++ rest) entries ∙ append_assoc (flat_map (round tag) whole) begun rest
+    (whole ++ plan ∷ [], (rest, ap (λ es. es ++ rest) entries ∙ append_assoc (flat_map (round tag) whole) begun rest
     ∙ ap (λ es. flat_map (round tag) whole ++ es) (one ∙ sym (append-nil (round tag plan)))
-    ∙ sym (flat_map-append (round tag) whole (plan ∷ [])))
+    ∙ sym (flat_map-append (round tag) whole (plan ∷ []))))
 
 slot_legal : (h : List Entry) (tag : ℕ) (slot : Slot) → IsSlot h tag slot
     → (plans : List Plan) × IsPrefix (entries_on tag h) (flat_map (round tag) plans)
-slot_legal h tag slots.Free is =
-    (is.whole, [], append-nil (entries_on tag h) ∙ is.entries
-    ∙ ap (λ es. flat_map (round tag) is.whole ++ es) is.state ∙ append-nil (flat_map (round tag) is.whole))
+slot_legal h tag slots.Free is = (
+  is.whole,
+  [],
+  append-nil (entries_on tag h) ∙ is.entries
+      ∙ ap (λ es. flat_map (round tag) is.whole ++ es) is.state ∙ append-nil (flat_map (round tag) is.whole),
+)
 slot_legal h tag (slots.Issued group) is =
     begun_legal h tag is.whole is.begun (plan_of group) is.entries
     (out tag (plan_of group) ∷ finish tag (plan_of group) ∷ collect tag (plan_of group) ∷ [])
@@ -280,10 +283,68 @@ history_legal h tags slot each = record {
   tags = tags;
   rounds = λ tag. elim (cases_lt tag 32) [
     | inl low ↦ slot_legal h tag (slot tag) (each tag low)
-    | inr high ↦ ([], [], append-nil (entries_on tag h) ∙ none_on h tag high tags)
+    | inr high ↦ ([], ([], append-nil (entries_on tag h) ∙ none_on h tag high tags))
   ];
 }
 
 -- a tag that no slot has is free
 pub high_free : (h : List Entry) (tag : ℕ) → 32 ≤ tag → All (λ (e : Entry). e.tag < 32) h → IsFree tag h
 high_free h tag high tags = inl (ap (last_or None) (none_on h tag high tags))
+
+by_number : (slot : Slot) → slot_number slot ≡ 1 → (group : Underway) × (slot ≡ slots.Issued group)
+by_number slots.Free is = absurd (omega (arith, is))
+by_number (slots.Issued group) is = (group, refl)
+by_number slots.Out is = absurd (omega (arith, is))
+by_number (slots.Finished group) is = absurd (omega (arith, is))
+
+out_by_number : (slot : Slot) → slot_number slot ≡ 2 → slot ≡ slots.Out
+out_by_number slots.Free is = absurd (omega (arith, is))
+out_by_number (slots.Issued group) is = absurd (omega (arith, is))
+out_by_number slots.Out is = refl
+out_by_number (slots.Finished group) is = absurd (omega (arith, is))
+
+two_four : (n : ℕ) → n ≡ 2 → n ≡ 4 → ⊥
+two_four n a b = omega (arith, a, b)
+
+one_four : (n : ℕ) → n ≡ 1 → n ≡ 4 → ⊥
+one_four n a b = omega (arith, a, b)
+
+three_one : (n : ℕ) → n ≡ 3 → n ≡ 1 → ⊥
+three_one n a b = omega (arith, a, b)
+
+three_two : (n : ℕ) → n ≡ 3 → n ≡ 2 → ⊥
+three_two n a b = omega (arith, a, b)
+
+pub issued_slot : (h : List Entry) (tag : ℕ) (slot : Slot) → IsSlot h tag slot → IsIssued tag h
+    → (group : Underway) × (slot ≡ slots.Issued group)
+issued_slot h tag slot is issued = by_number slot (sym (slot_state h tag slot is) ∙ issued_number tag h issued)
+
+pub out_slot : (h : List Entry) (tag : ℕ) (slot : Slot) → IsSlot h tag slot → IsOut tag h → slot ≡ slots.Out
+out_slot h tag slot is out = out_by_number slot (sym (slot_state h tag slot is) ∙ out_number tag h out)
+
+pub finished_group : (slot : Slot) → IsFinishedSlot slot → (group : Underway) × (slot ≡ slots.Finished group)
+finished_group slots.Free is = absurd is
+finished_group (slots.Issued group) is = absurd is
+finished_group slots.Out is = absurd is
+finished_group (slots.Finished group) is = (group, refl)
+
+-- a tag that isn't free is one of the 32
+pub taken_low : (h : List Entry) (tag : ℕ) → All (λ (e : Entry). e.tag < 32) h → ¬ IsFree tag h → tag < 32
+taken_low h tag tags taken =
+    elim (cases_lt tag 32) [
+      | inl low ↦ low
+      | inr high ↦ absurd (taken (high_free h tag high tags))
+    ]
+
+pub out_taken : (h : List Entry) (tag : ℕ) → IsOut tag h → ¬ IsFree tag h
+out_taken h tag is free = two_four (state_number tag h) (out_number tag h is) (free_number tag h free)
+
+pub issued_taken : (h : List Entry) (tag : ℕ) → IsIssued tag h → ¬ IsFree tag h
+issued_taken h tag is free = one_four (state_number tag h) (issued_number tag h is) (free_number tag h free)
+
+-- a finished tag is neither issued nor out
+pub finished_only : (h : List Entry) (tag : ℕ) → IsFinished tag h → (IsIssued tag h ⊎ IsOut tag h) → ⊥
+finished_only h tag is (inl issued) =
+    three_one (state_number tag h) (finished_number tag h is) (issued_number tag h issued)
+finished_only h tag is (inr out) =
+    three_two (state_number tag h) (finished_number tag h is) (out_number tag h out)

@@ -10,7 +10,7 @@ ghost use Rattle.css_tags.specs.Refusals.{group_of, IsBusy};
 
 use crate::entry::{ChannelEntry, Step};
 use crate::group::Group;
-use crate::slot::{Slot, first_free, is_finished, is_free, take};
+use crate::slot::{Slot, first_free, free_slots, is_finished, is_free, take};
 use crate::staged::Staged;
 use arrayvec::ArrayVec;
 use css_base::{ChannelLine, NoMemory};
@@ -99,10 +99,7 @@ impl Channel {
     pub fn new(alloc: Global) -> Result<Channel, NoMemory>
         ensures { IfOk result (λ c. c ≡ []) }
     {
-        let mut slots = Vec::with_capacity(alloc, TAGS)?;
-        for _ in 0..TAGS {
-            slots.push_reserved(Slot::Free);
-        }
+        let slots = free_slots(alloc)?;
         Ok(Channel {
             history: Vec::new(alloc),
             slots,
@@ -210,10 +207,17 @@ impl Channel {
     pub fn lines(&self, alloc: Global) -> Result<Vec<ChannelLine>, NoMemory>
         ensures { IfOk result (λ v. v.items ≡ map line_of self.now) }
     {
-        let mut lines = Vec::with_capacity(alloc, self.history.len())?;
-        for entry in &self.history {
-            lines.push_reserved(entry.line());
-        }
-        Ok(lines)
+        lines_of(alloc, self.history.as_slice())
     }
+}
+
+/// What a trace shows of entries, in order.
+fn lines_of(alloc: Global, history: &[ChannelEntry]) -> Result<Vec<ChannelLine>, NoMemory>
+    ensures { IfOk result (λ v. v.items ≡ map line_of history.now) }
+{
+    let mut lines = Vec::with_capacity(alloc, history.len())?;
+    for entry in history {
+        lines.push_reserved(entry.line());
+    }
+    Ok(lines)
 }

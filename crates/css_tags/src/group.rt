@@ -1,5 +1,5 @@
 //! Groups of transfers.
-ghost use Rattle.std.specs.Prelude.{◌≡◌, ◌∷◌, [], map, All, IfOk, IfErr, IfSome, IfNone, false, true, drop, length, replicate};
+ghost use Rattle.std.specs.Prelude.{◌≡◌, ◌∷◌, [], map, All, IfOk, IfErr, IfSome, IfNone, false, true, drop, length, replicate, if◌then◌else◌};
 ghost use Rattle.std.specs.Bool.{OnTrue, OnFalse};
 ghost use Rattle.std.specs.List.{flat_map, sum_by};
 ghost use Rattle.css_tags.specs.declared.piece.Piece.{Piece as Part};
@@ -121,9 +121,10 @@ impl Group {
         self.bytes
     }
 
-    /// Once no piece is left, the blocks have the bytes that are planned.
+    /// Once no piece is left, the blocks have the bytes that are planned, and a put group's copies too.
     pub fn whole(&self)
-        ensures { left self.now ≡ [] → blocks_of self.now ≡ map block_after (plan_of self.now).items }
+        ensures blocks { left self.now ≡ [] → blocks_of self.now ≡ map block_after (plan_of self.now).items }
+        ensures copies { left self.now ≡ [] → flat_map copy_of self.now.items ≡ (if self.now.put then map (λ item. item.bytes) (plan_of self.now).items else []) }
     {
         let _ = &self.put;
     }

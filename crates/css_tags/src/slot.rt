@@ -1,8 +1,10 @@
 //! What is on a tag.
-ghost use Rattle.std.specs.Prelude.{◌≡◌, ◌<◌, ◌↔◌, ℕ, length, IsTrue, IfSome, IfNone, slice_index_or, slice_set};
+ghost use Rattle.std.specs.Prelude.{◌≡◌, ◌<◌, ◌↔◌, ℕ, length, IsTrue, IfSome, IfNone, IfOk, replicate, slice_index_or, slice_set};
 ghost use Rattle.css_tags.specs.Slots.{IsFreeSlot, IsFinishedSlot};
 
 use crate::group::Group;
+use css_base::NoMemory;
+use std::alloc::Global;
 use std::mem;
 
 /// What is on a tag.
@@ -57,4 +59,16 @@ pub(crate) fn first_free(slots: &[Slot]) -> Option<u32>
         }
     }
     None
+}
+
+/// The slots of 32 tags that are free.
+pub(crate) fn free_slots(alloc: Global) -> Result<Vec<Slot>, NoMemory>
+    ensures { IfOk result (λ v. v.items ≡ replicate 32 Slot.Free) }
+{
+    let mut slots = Vec::with_capacity(alloc, 32)?;
+    for tag in 0..32u32 {
+        let _ = tag;
+        slots.push_reserved(Slot::Free);
+    }
+    Ok(slots)
 }

@@ -31,6 +31,7 @@ impl Staged {
         requires { left group ≡ [] }
         ensures { result ≡ staged (plan_of group) }
     {
+        group.whole();
         let put = group.is_put();
         let (blocks, copies) = group.into_parts();
         Staged {
