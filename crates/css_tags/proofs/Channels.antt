@@ -294,7 +294,7 @@ queue_tells h all [] is false empty = absurd cc
 queue_tells h all (t ∷ queue) is true empty =
     absurd (let apart : eqb (length (t ∷ queue)) 0 ≡ false = ne_eqb (length (t ∷ queue)) 0 (λ n. omega (arith, n)) in cc)
 queue_tells h all (t ∷ queue) is false empty =
-    (λ _. (t, All-head (λ t. IsIssued t h) t queue is.issued), λ _. tt)
+    (λ _. (t, All-head (λ t. IsIssued t h) t queue is.issued), λ _. refl)
 
 pub none_issued : (h : List Entry) (all : List Slot) (queue : List ℕ) → IsQueue h all queue
     → true ≡ eqb (length queue) 0 → (tag : ℕ) → IsIssued tag h → ⊥

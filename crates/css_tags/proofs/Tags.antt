@@ -246,18 +246,25 @@ slot_collected h tag group is =
 begun_legal : (h : List Entry) (tag : ℕ) (whole : List Plan) (begun : List Entry) (plan : Plan)
     → entries_on tag h ≡ flat_map (round tag) whole ++ begun → (rest : List Entry) → begun ++ rest ≡ round tag plan
     → (plans : List Plan) × IsPrefix (entries_on tag h) (flat_map (round tag) plans)
-begun_legal h tag whole begun plan entries rest one =
-    (whole ++ plan ∷ [], (rest, ap (λ es. es ++ rest) entries ∙ append_assoc (flat_map (round tag) whole) begun rest
-    ∙ ap (λ es. flat_map (round tag) whole ++ es) (one ∙ sym (append-nil (round tag plan)))
-    ∙ sym (flat_map-append (round tag) whole (plan ∷ []))))
+begun_legal h tag whole begun plan entries rest one = (
+  whole ++ plan ∷ [],
+  (
+    rest,
+    ap (λ es. es ++ rest) entries ∙ append_assoc (flat_map (round tag) whole) begun rest
+        ∙ ap (λ es. flat_map (round tag) whole ++ es) (one ∙ sym (append-nil (round tag plan)))
+        ∙ sym (flat_map-append (round tag) whole (plan ∷ [])),
+  ),
+)
 
 slot_legal : (h : List Entry) (tag : ℕ) (slot : Slot) → IsSlot h tag slot
     → (plans : List Plan) × IsPrefix (entries_on tag h) (flat_map (round tag) plans)
 slot_legal h tag slots.Free is = (
   is.whole,
-  [],
-  append-nil (entries_on tag h) ∙ is.entries
-      ∙ ap (λ es. flat_map (round tag) is.whole ++ es) is.state ∙ append-nil (flat_map (round tag) is.whole),
+  (
+    [],
+    append-nil (entries_on tag h) ∙ is.entries
+        ∙ ap (λ es. flat_map (round tag) is.whole ++ es) is.state ∙ append-nil (flat_map (round tag) is.whole),
+  ),
 )
 slot_legal h tag (slots.Issued group) is =
     begun_legal h tag is.whole is.begun (plan_of group) is.entries

@@ -5,4 +5,4 @@ pub returns : goal.returns
 returns c =
     let blocks = c.into_parts-blocks.ensures.blocks ∙ c.whole.ensures.blocks c.requires in
     let copies = c.into_parts-blocks.ensures.copies ∙ c.whole.ensures.copies c.requires in
-    rw (c.is_put.ensures, blocks, copies) refl
+    rw (c.is_put-put.ensures, blocks, copies) refl
