@@ -2,6 +2,8 @@ pub mod Blocks
 pub mod Entries
 pub mod Groups
 pub mod Legal
+pub mod Lends
+pub mod LendsStaged
 pub mod Pieces
 pub mod Plans
 pub mod Refusals

@@ -85,3 +85,17 @@ impl Block {
         self.bytes.as_mut_slice().fill(0);
     }
 }
+
+impl Block {
+    ghost use Rattle.std.specs.Prelude.{◌≡◌};
+    ghost use Rattle.std.specs.Borrow.{sem};
+    ghost use Rattle.css_tags.specs.Lends.{LendsBytes};
+
+    /// Lends the bytes to a writer.
+    pub(crate) fn bytes_mut(&mut self) -> &mut [u8]
+        ensures* writes_back { sem 𝓛 (LendsBytes self.entry result) }
+        ensures value { result.now ≡ self.old.bytes }
+    {
+        self.bytes.as_mut_slice()
+    }
+}
