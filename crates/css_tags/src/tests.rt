@@ -78,3 +78,47 @@ fn counts_of_pieces(rt: HostRuntime) -> Result<(), Fail> {
     assert_eq!(rt; pieces(alloc, 32_770, 16_385)?, (4, true));
     Ok(())
 }
+
+// The worked row of a channel: a tag that is issued is busy, its blocks come only once it is finished, and then it is free.
+// Gives how many pieces the group had, and how many entries are shown; an error where a step answers otherwise.
+fn one_round(alloc: Global) -> Result<(u64, usize), AllocError> {
+    let Ok(mut channel) = Channel::new(alloc) else {
+        return Err(AllocError);
+    };
+    let Ok(()) = channel.issue(alloc, 3, sevens(alloc, 16_385, 16_385)?) else {
+        return Err(AllocError);
+    };
+    let Err(IssueRefused::Busy(_)) = channel.issue(alloc, 3, sevens(alloc, 1, 1)?) else {
+        return Err(AllocError);
+    };
+    let Err(NotYet) = channel.collect(3) else {
+        return Err(AllocError);
+    };
+    let Some((tag, group)) = channel.take_next() else {
+        return Err(AllocError);
+    };
+    let Err(NotYet) = channel.collect(tag) else {
+        return Err(AllocError);
+    };
+    let (group, pieces) = moved(group);
+    channel.finish(tag, group);
+    let Ok(_) = channel.collect(tag) else {
+        return Err(AllocError);
+    };
+    if tag != 3 || channel.issued() || channel.finished(3) || channel.free_tag() != Some(0) {
+        return Err(AllocError);
+    }
+    let Ok(()) = channel.issue(alloc, 3, sevens(alloc, 1, 1)?) else {
+        return Err(AllocError);
+    };
+    let Ok(lines) = channel.lines(alloc) else {
+        return Err(AllocError);
+    };
+    Ok((pieces, lines.len()))
+}
+
+#[test]
+fn a_round(rt: HostRuntime) -> Result<(), Fail> {
+    assert_eq!(rt; one_round(rt.alloc())?, (2, 5));
+    Ok(())
+}
