@@ -1,0 +1,6 @@
+pub mod Channels
+pub mod Groups
+pub mod Moving
+pub mod Pieces
+pub mod Tags
+pub mod Transfers

@@ -1,0 +1,8 @@
+use Rattle.std.proofs.Common.{◌≡◌, ◌≤◌, map, All, length, vec_len, vec_capacity}
+use Rattle.css_tags.specs.Groups.{IsMoving, begun_get}
+use Rattle.css_tags.proofs.group.Group.get.Given as goal
+
+abbrev pub invariant-loop-item : goal.invariant-loop-item
+invariant-loop-item l =
+    (l.transfers.items ≡ map begun_get l.yielded) × All IsMoving l.transfers.items
+    × (vec_len l.transfers ≡ length l.yielded) × (vec_len l.fn.items ≤ vec_capacity l.transfers)

@@ -1,0 +1,13 @@
+pub mod Blocks
+pub mod Entries
+pub mod Groups
+pub mod Legal
+pub mod Lends
+pub mod LendsStaged
+pub mod Pieces
+pub mod Plans
+pub mod Refusals
+pub mod Slots
+pub mod Staged
+pub mod States
+pub mod Transfers
