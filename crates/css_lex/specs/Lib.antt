@@ -1,0 +1,4 @@
+pub mod Source
+pub mod LineKinds
+pub mod Comments
+pub mod Lines
