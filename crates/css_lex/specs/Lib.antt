@@ -5,3 +5,7 @@ pub mod Lines
 pub mod Lexemes
 pub mod Values
 pub mod Macros
+pub mod Reading
+pub mod Spelling
+pub mod Refusals
+pub mod Lexing
