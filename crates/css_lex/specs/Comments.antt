@@ -49,14 +49,18 @@ passes_over front = is_passed_over (line_kind (take_while (λ b. not (is_quote b
 abbrev pub front_behind : List ℕ → ℕ → List ℕ
 front_behind front b = if b == 10 then [] else front ++ b ∷ []
 
+-- The length of the constant that stands behind this front of its line, 0 where none stands there.
+abbrev pub constant_behind : (front text : List ℕ) → ℕ
+constant_behind front text = if passes_over front then 0 else constant_length text
+
 -- The bytes of a text with a space, at the place where the comment begins, in place of each comment. Its first bytes
 -- belong to a comment (`hidden`) or to a constant (`kept`), and its logical line shows `front` before it.
 abbrev pub uncommented : (front : List ℕ) (hidden kept : ℕ) (text : List SourceByte) → List SourceByte
 uncommented front hidden kept [] = []
 uncommented front (suc hidden) kept (c ∷ text) = uncommented front hidden kept text
-uncommented front zero (suc kept) (c ∷ text) = c ∷ uncommented (front_behind front c.byte) zero kept text
+uncommented front zero (suc kept) (c ∷ text) = c ∷ uncommented (front_behind front c.byte) 0 kept text
 uncommented front zero zero (c ∷ text) =
-    let n = comment_length (bytes_of (c ∷ text)) in
-    let byte = if n == 0 then c.byte else 32 in
-    let k = if passes_over front then 0 else constant_length (bytes_of (c ∷ text)) in
-    record { byte = byte; place = c.place } ∷ uncommented (front_behind front byte) (n - 1) (k - 1) text
+    elim (comment_length (bytes_of (c ∷ text))) [
+      | zero ↦ c ∷ uncommented (front_behind front c.byte) 0 (constant_behind front (bytes_of (c ∷ text)) - 1) text
+      | suc n ↦ record { byte = 32; place = c.place } ∷ uncommented (front_behind front 32) n 0 text
+    ]

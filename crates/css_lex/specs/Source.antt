@@ -20,9 +20,10 @@ abbrev pub unspliced : (place spliced : ℕ) (text : List ℕ) → List SourceBy
 unspliced place spliced [] = []
 unspliced place (suc spliced) (b ∷ text) = unspliced (place + 1) spliced text
 unspliced place zero (b ∷ text) =
-    let n = splice_length (b ∷ text) in
-    let rest = unspliced (place + 1) (n - 1) text in
-    if n == 0 then record { byte = b; place = place } ∷ rest else rest
+    elim (splice_length (b ∷ text)) [
+      | zero ↦ record { byte = b; place = place } ∷ unspliced (place + 1) 0 text
+      | suc n ↦ unspliced (place + 1) n text
+    ]
 
 -- The bytes alone.
 abbrev pub bytes_of : List SourceByte → List ℕ
