@@ -1,2 +1,4 @@
 pub mod Rests
 pub mod Splices
+pub mod LineKinds
+pub mod CommentEnds

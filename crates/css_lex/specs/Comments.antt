@@ -40,10 +40,14 @@ is_passed_over kinds.Include = true
 is_passed_over kinds.Pragma = true
 is_passed_over _ = false
 
--- A line of which this stands in front of a quote is passed over unread, so that there is no constant. The line's words
--- before its first quote tell.
+-- What stands before the first quote.
+abbrev pub unquoted : List ℕ → List ℕ
+unquoted bytes = take_while (λ b. not (is_quote b)) bytes
+
+-- A line of which this stands in front of a quote is passed over unread, so that there is no constant. What stands before
+-- the line's first quote tells.
 abbrev pub passes_over : List ℕ → Bool
-passes_over front = is_passed_over (line_kind (take_while (λ b. not (is_quote b)) front))
+passes_over front = is_passed_over (line_kind (unquoted front))
 
 -- What a logical line shows up to behind a byte: a newline begins a line.
 abbrev pub front_behind : List ℕ → ℕ → List ℕ

@@ -1,6 +1,7 @@
 pub mod Source
 pub mod LineKinds
 pub mod Comments
+pub mod Fronts
 pub mod Lines
 pub mod Lexemes
 pub mod Values

@@ -35,7 +35,7 @@ directive_kind (b ∷ text) =
     if bytes_eq word (codes "include") then kinds.Include
     else (if bytes_eq word (codes "define") then kinds.Define
     else (if bytes_eq word (codes "undef") then kinds.Undef
-    else (if bytes_eq word (codes "pragma") then pragma_kind (drop 6 (b ∷ text)) else kinds.Unknown)))
+    else (if bytes_eq word (codes "pragma") then pragma_kind (drop (length word) (b ∷ text)) else kinds.Unknown)))
 
 -- The kind of a line: a `#` line is one whose first byte behind white space is `#`.
 abbrev pub line_kind : List ℕ → LineKind

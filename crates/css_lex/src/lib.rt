@@ -1,6 +1,8 @@
 //! The lexer: translation phases 1 to 4 and 6 of C99 5.1.1.2, and the text that is left without its directives.
 #![tactic(auto)]
 
+mod characters;
+mod comments;
 mod lexeme_class;
 mod line_kind;
 mod source;
