@@ -2,3 +2,5 @@ pub mod Rests
 pub mod Splices
 pub mod LineKinds
 pub mod CommentEnds
+pub mod Knowing
+pub mod Uncommenting

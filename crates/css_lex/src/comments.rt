@@ -1,5 +1,5 @@
 //! The bytes of a text behind translation phase 3 (C99 5.1.1.2): comments are spaces.
-ghost use Rattle.std.specs.Prelude.{◌≡◌, ◌≢◌, ◌≤◌, ◌<◌, ◌-◌, ◌++◌, ◌∷◌, [], false, length, codes, IfOk};
+ghost use Rattle.std.specs.Prelude.{◌≡◌, ◌≢◌, ◌≤◌, ◌<◌, ◌-◌, ◌++◌, ◌∷◌, [], true, false, length, codes, IfOk};
 ghost use Rattle.css_lex.specs.Source.{begins_with, bytes_of};
 ghost use Rattle.css_lex.specs.Comments.{length_before, comment_length, constant_rest, constant_length, constant_behind, uncommented, passes_over, front_behind};
 ghost use Rattle.css_lex.specs.Fronts.{IsKnown};
@@ -74,6 +74,14 @@ fn length_of_rest(quote: u8, text: &[SourceByte]) -> usize
     end
 }
 
+/// Whether a text begins with a quote.
+fn begins_with_quote(text: &[SourceByte]) -> bool
+    ensures none { result ≡ false → constant_length (bytes_of text.now) ≡ 0 }
+    ensures some { result ≡ true → 0 < length text.now }
+{
+    !text.is_empty() && is_quotation_mark(text[0].byte)
+}
+
 /// The length of the string or character constant that a text begins with, 0 where it begins with none.
 fn constant_at(text: &[SourceByte]) -> usize
     ensures { result ≡ constant_length (bytes_of text.now) }
@@ -109,23 +117,26 @@ impl Shown {
     fn constant_next(&self, text: &[SourceByte]) -> usize
         ensures { result ≡ constant_behind self.now.front.items (bytes_of text.now) }
     {
-        if text.is_empty() || !is_quotation_mark(text[0].byte) || self.is_unread() {
-            0
-        } else {
-            constant_at(text)
+        if !begins_with_quote(text) {
+            return 0;
         }
+        if self.is_unread() {
+            return 0;
+        }
+        constant_at(text)
     }
 
     /// Whether the line is known to be passed over behind one more byte.
     fn known_behind(&self, byte: u8) -> Option<bool>
-        requires { byte ≢ 10 }
         ensures { IsKnown (self.now.front.items ++ byte ∷ []) result }
     {
-        if self.passed_over.is_none() && is_quotation_mark(byte) {
-            Some(self.is_unread())
-        } else {
-            self.passed_over
+        if let Some(unread) = self.passed_over {
+            return Some(unread);
         }
+        if is_quotation_mark(byte) {
+            return Some(self.is_unread());
+        }
+        None
     }
 
     /// Shows one more byte.
@@ -144,4 +155,58 @@ impl Shown {
         }
         Ok(())
     }
+
+    /// How many of the next bytes belong to a constant, behind the first byte of a text: one fewer, or, where none did, as
+    /// many as the constant has that the text begins with.
+    fn kept_behind(&self, kept: usize, text: &[SourceByte]) -> usize
+        ensures inside { 0 < kept → result ≡ kept - 1 }
+        ensures outside { kept ≡ 0 → result ≡ constant_behind self.now.front.items (bytes_of text.now) - 1 }
+    {
+        if kept > 0 {
+            kept - 1
+        } else {
+            self.constant_next(text).saturating_sub(1)
+        }
+    }
+}
+
+/// The length of the comment that a text begins with where none of its bytes belong to a constant; else 0.
+fn hidden_at(kept: usize, text: &[SourceByte]) -> usize
+    ensures inside { 0 < kept → result ≡ 0 }
+    ensures outside { kept ≡ 0 → result ≡ comment_length (bytes_of text.now) }
+    ensures within { result ≤ length text.now }
+{
+    if kept > 0 { 0 } else { comment_at(text) }
+}
+
+/// The bytes of a text with a space in place of each comment.
+pub(crate) fn without_comments(
+    alloc: Global,
+    source: &[SourceByte],
+) -> Result<Vec<SourceByte>, NoMemory>
+    ensures { IfOk result (λ bytes. bytes.items ≡ uncommented [] 0 0 source.now) }
+{
+    let mut shown = Shown {
+        bytes: Vec::new(alloc),
+        front: Vec::new(alloc),
+        passed_over: None,
+    };
+    let mut kept = 0;
+    let mut place = 0;
+    while place < source.len() {
+        let rest = &source[place..];
+        let hidden = hidden_at(kept, rest);
+        if hidden > 0 {
+            shown.push(SourceByte {
+                byte: b' ',
+                place: source[place].place,
+            })?;
+            place += hidden;
+        } else {
+            kept = shown.kept_behind(kept, rest);
+            shown.push(source[place])?;
+            place += 1;
+        }
+    }
+    Ok(shown.bytes)
 }

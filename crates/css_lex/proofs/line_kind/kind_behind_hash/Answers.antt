@@ -1,4 +1,5 @@
 use Rattle.std.proofs.Common.{◌≡◌, ◌∙◌, sym, ap, drop, length}
+use Rattle.std.specs.Prelude.{bytes_eq}
 use Rattle.css_lex.proofs.Rests.{rest_is}
 use Rattle.css_lex.proofs.LineKinds.{pragma_line}
 use Rattle.css_lex.specs.LineKinds.{first_word, pragma_kind}
@@ -6,6 +7,11 @@ use Rattle.css_lex.proofs.line_kind.kind_behind_hash.Goals as goal
 
 pub returns-then-eq-4 : goal.returns-then-eq-4
 returns-then-eq-4 c =
-    let e = c.eq.ensures in let f = c.if-eq.false in let s = c.as_slice.ensures in let w = c.word_in_front-word.ensures in let k = c.kind_of_pragma.ensures in
-    let g = c.if-eq.ensures in
-    ?
+    let word = c.word_in_front-word.result.now in
+    c.kind_of_pragma.ensures
+    ∙ sym (pragma_line c.args.text.now word _ c.word_in_front-word.ensures
+        (ap (bytes_eq word) (sym c.as_slice.ensures) ∙ sym c.eq.ensures ∙ c.if-eq.false)
+        (ap (bytes_eq word) (sym c.as_slice-else-eq.ensures) ∙ sym c.eq-else-eq.ensures ∙ c.if-eq-2.false)
+        (ap (bytes_eq word) (sym c.as_slice-else-eq-2.ensures) ∙ sym c.eq-else-eq-2.ensures ∙ c.if-eq-3.false)
+        (ap (bytes_eq word) (sym c.as_slice-else-eq-3.ensures) ∙ sym c.eq-else-eq-3.ensures ∙ c.if-eq-4.true)
+        (rest_is (length word) c.args.text.now))
