@@ -4,3 +4,5 @@ pub mod LineKinds
 pub mod CommentEnds
 pub mod Knowing
 pub mod Uncommenting
+pub mod Places
+pub mod Erasing

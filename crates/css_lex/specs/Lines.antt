@@ -23,9 +23,13 @@ lines_from from to front (c ∷ bytes) =
     then record { bytes = front; from = from; to = c.place + 1 } ∷ lines_from (c.place + 1) to [] bytes
     else lines_from from to (front ++ c ∷ []) bytes
 
+-- What a text shows: its bytes without splices, and each comment as a space.
+abbrev pub shown_bytes : List ℕ → List SourceByte
+shown_bytes text = uncommented [] 0 0 (unspliced 0 0 text)
+
 -- The logical lines of a text.
 abbrev pub logical_lines : List ℕ → List LogicalLine
-logical_lines text = lines_from 0 (length text) [] (uncommented [] 0 0 (unspliced 0 0 text))
+logical_lines text = lines_from 0 (length text) [] (shown_bytes text)
 
 abbrev pub kind_of_line : LogicalLine → LineKind
 kind_of_line line = line_kind (bytes_of line.bytes)

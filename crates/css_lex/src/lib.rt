@@ -3,10 +3,12 @@
 
 mod characters;
 mod comments;
+mod erasure;
 mod lexeme_class;
 mod line_kind;
 mod source;
 
+pub use erasure::erase;
 pub use lexeme_class::LexemeClass;
 pub use line_kind::LineKind;
 pub use source::SourceByte;
