@@ -9,7 +9,7 @@ use Rattle.css_lex.specs.Source.{unspliced, bytes_of}
 use Rattle.css_lex.specs.Comments.{uncommented}
 use Rattle.css_lex.specs.LineKinds.{line_kind}
 use Rattle.css_lex.specs.Lines.{LogicalLine, lines_from, shown_bytes, kind_of_line, kept_of, erased}
-use Rattle.css_lex.proofs.Places.{AreBetween, from_lower, unspliced_between, uncommented_between}
+use Rattle.css_lex.proofs.Places.{AreBetween, from_lower, shown_between}
 
 -- What is left of some lines.
 abbrev pub left_of : List ℕ → List LogicalLine → List ℕ
@@ -27,7 +27,7 @@ none_left text shown is = record {
   front = [];
   front_is = refl;
   left_is = ap (λ z. left_of text (lines_from 0 (length text) [] z)) (sym is);
-  between = subst (λ z. AreBetween 0 (length text) z) (sym is) (uncommented_between [] 0 0 0 (length text) (unspliced 0 0 text) (subst (λ h. AreBetween 0 h (unspliced 0 0 text)) (omega arith) (unspliced_between 0 0 text)));
+  between = subst (λ z. AreBetween 0 (length text) z) (sym is) (shown_between text);
 }
 
 abbrev pub at_place : List SourceByte → ℕ → SourceByte
@@ -54,9 +54,9 @@ pub last_left : (text : List ℕ) (shown : List SourceByte) (left line : List �
 last_left text shown left line from l =
     l.left_is
     ∙ ap (λ z. left ++ z)
-      (ap (λ z. left_of text (lines_from from (length text) l.front z)) (drop-length shown)
-      ∙ part_left text l.front line from (length text) [] l.front_is
-      ∙ append-nil (kept_of (line_kind line) (slice_range text from (length text))))
+    (ap (λ z. left_of text (lines_from from (length text) l.front z)) (drop-length shown)
+    ∙ part_left text l.front line from (length text) [] l.front_is
+    ∙ append-nil (kept_of (line_kind line) (slice_range text from (length text))))
 
 between_at : (text : List ℕ) (shown : List SourceByte) (low place : ℕ) → AreBetween low (length text) (drop place shown) → place < length shown
     → AreBetween low (length text) (at_place shown place ∷ drop (place + 1) shown)
@@ -73,9 +73,9 @@ line_left text shown left all line from place l inside newline is = record {
   left_is =
       l.left_is
       ∙ ap (λ z. left ++ z)
-        (ap (λ z. left_of text (lines_from from (length text) l.front z)) (rest_at shown place inside)
-        ∙ ap (left_of text) (newline_line from (length text) l.front (at_place shown place) (drop (place + 1) shown) newline)
-        ∙ part_left text l.front line from to (lines_from to (length text) [] (drop (place + 1) shown)) l.front_is)
+      (ap (λ z. left_of text (lines_from from (length text) l.front z)) (rest_at shown place inside)
+      ∙ ap (left_of text) (newline_line from (length text) l.front (at_place shown place) (drop (place + 1) shown) newline)
+      ∙ part_left text l.front line from to (lines_from to (length text) [] (drop (place + 1) shown)) l.front_is)
       ∙ sym (append_assoc left (kept_of (line_kind line) (slice_range text from to)) (left_of text (lines_from to (length text) [] (drop (place + 1) shown))))
       ∙ ap (λ z. z ++ left_of text (lines_from to (length text) [] (drop (place + 1) shown))) (sym is);
   between = (between_at text shown from place l.between inside).2;

@@ -6,3 +6,4 @@ pub mod Knowing
 pub mod Uncommenting
 pub mod Places
 pub mod Erasing
+pub mod Counting

@@ -2,6 +2,7 @@
 use Rattle.std.proofs.Common.{◌≡◌, ℕ, zero, suc, ◌+◌, ◌-◌, ◌<◌, ◌≤◌, List, [], ◌∷◌, length, refl, ap, sym, ◌∙◌, subst, arith, le_trans}
 use Rattle.css_lex.specs.declared.source.SourceByte.{SourceByte}
 use Rattle.css_lex.specs.Source.{splice_length, unspliced, bytes_of}
+use Rattle.css_lex.specs.Lines.{shown_bytes}
 use Rattle.css_lex.specs.Comments.{comment_length, constant_behind, front_behind, uncommented}
 
 -- The places rise from `low` on, and stay below `high`.
@@ -46,3 +47,9 @@ uncommented_between front zero (suc kept) low high (c ∷ text) b = (b.0, b.1, u
 uncommented_between front zero zero low high (c ∷ text) b =
     commented_or_not front low high (comment_length (bytes_of (c ∷ text))) (constant_behind front (bytes_of (c ∷ text)) - 1) c text b.0 b.1
     (λ f n k. uncommented_between f n k (c.place + 1) high text b.2)
+
+-- What a text shows has rising places in the text.
+pub shown_between : (text : List ℕ) → AreBetween 0 (length text) (shown_bytes text)
+shown_between text =
+    uncommented_between [] 0 0 0 (length text) (unspliced 0 0 text)
+    (subst (λ h. AreBetween 0 h (unspliced 0 0 text)) (omega arith) (unspliced_between 0 0 text))

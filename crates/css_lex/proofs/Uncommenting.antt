@@ -58,8 +58,8 @@ comment_shown text rest shown all front next_front kept n place done inside is k
     let first : drop place text ≡ c ∷ drop (place + 1) text = drop_more text place (record { byte = 0; place = 0 }) inside in
     let step = comment_next front kept n c (drop (place + 1) text) kept_some (λ z. kept_none z ∙ ap (λ r. comment_length (bytes_of r)) (is ∙ first)) more in
     let then : uncommented (front_behind front 32) 0 kept (drop n (c ∷ drop (place + 1) text)) ≡ uncommented next_front 0 kept (drop (place + n) text) =
-        ap (λ r. uncommented (front_behind front 32) 0 kept (drop n r)) (sym first) ∙ ap (λ r. uncommented (front_behind front 32) 0 kept r) (drop-drop n place text)
-        ∙ ap (λ f. uncommented f 0 kept (drop (place + n) text)) (sym front_is) in
+    ap (λ r. uncommented (front_behind front 32) 0 kept (drop n r)) (sym first) ∙ ap (λ r. uncommented (front_behind front 32) 0 kept r) (drop-drop n place text)
+    ∙ ap (λ f. uncommented f 0 kept (drop (place + n) text)) (sym front_is) in
     more_shown text shown all front next_front kept kept place (place + n) (record { byte = 32; place = c.place }) done all_is
     (ap (uncommented front 0 kept) first ∙ step ∙ ap (λ r. record { byte = 32; place = c.place } ∷ r) then)
 
@@ -72,6 +72,6 @@ byte_shown text rest shown all front next_front kept n next place done inside is
     let c = at_place text place in
     let first : drop place text ≡ c ∷ drop (place + 1) text = drop_more text place (record { byte = 0; place = 0 }) inside in
     let step = byte_next front kept n next c (drop (place + 1) text) (λ z. hidden z ∙ ap (λ r. comment_length (bytes_of r)) (is ∙ first)) none kept_some
-        (λ z. kept_none z ∙ ap (λ r. constant_behind front (bytes_of r) - 1) (is ∙ first)) in
+    (λ z. kept_none z ∙ ap (λ r. constant_behind front (bytes_of r) - 1) (is ∙ first)) in
     more_shown text shown all front next_front kept next place (place + 1) c done all_is
     (ap (uncommented front 0 kept) first ∙ step ∙ ap (λ f. c ∷ uncommented f 0 next (drop (place + 1) text)) (sym front_is))

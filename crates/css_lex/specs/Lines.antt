@@ -1,5 +1,5 @@
 -- Logical lines, and the text that is left where those are erased that are directives.
-use Rattle.std.specs.Prelude.{ℕ, ◌+◌, Bool, true, false, List, [], ◌∷◌, ◌++◌, length, filter, flat_map, slice_range, ◌==◌, if◌then◌else◌}
+use Rattle.std.specs.Prelude.{ℕ, ◌+◌, Bool, true, false, List, [], ◌∷◌, ◌++◌, length, filter, flat_map, count_by, slice_range, ◌==◌, if◌then◌else◌}
 use Rattle.css_lex.specs.declared.line_kind.LineKind.{LineKind}
 use Rattle.css_lex.specs.declared.line_kind.LineKind.TheVariants as kinds
 use Rattle.css_lex.specs.declared.source.SourceByte.{SourceByte}
@@ -45,3 +45,7 @@ kept_of kind part = if is_css kind then filter (λ b. b == 10) part else part
 -- The text without its directives: of each logical line that is one only the newlines are left.
 abbrev pub erased : List ℕ → List ℕ
 erased text = flat_map (λ line. kept_of (kind_of_line line) (slice_range text line.from line.to)) (logical_lines text)
+
+-- The newlines among some bytes.
+abbrev pub newlines : List ℕ → ℕ
+newlines bytes = count_by (λ b. b == 10) bytes

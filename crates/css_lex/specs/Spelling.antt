@@ -3,14 +3,10 @@ use Rattle.std.specs.Prelude.{ℕ, ◌+◌, List, [], ◌∷◌, ◌++◌, map, 
 use Rattle.css_base.specs.Tokens.{Kind, Text, Directive, Lexeme, At, Lexemes, End, More}
 use Rattle.css_lex.specs.declared.line_kind.LineKind.{LineKind}
 use Rattle.css_lex.specs.declared.line_kind.LineKind.TheVariants as kinds
-use Rattle.css_lex.specs.Lines.{kind_of_line}
+use Rattle.css_lex.specs.Lines.{kind_of_line, newlines}
 use Rattle.css_lex.specs.Lexemes.{Piece}
 use Rattle.css_lex.specs.Macros.{Table, replacement, predefined_macros}
 use Rattle.css_lex.specs.Reading.{ReadLine, over_lines, solid, read_pieces, kind_of_piece, place_of, end_of}
-
--- The newlines among some bytes.
-abbrev pub newlines : List ℕ → ℕ
-newlines bytes = count_by (λ b. b == 10) bytes
 
 -- The line in which a place of the text lies, counted from 1.
 abbrev pub line_at : (text : List ℕ) (place : ℕ) → ℕ

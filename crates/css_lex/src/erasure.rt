@@ -25,11 +25,7 @@ fn push_kept(left: &mut Vec<u8>, kind: LineKind, part: &[u8]) -> Result<(), NoMe
 }
 
 /// The text without its directives, by what it shows.
-fn without_directives(
-    alloc: Global,
-    text: &[u8],
-    shown: &[SourceByte],
-) -> Result<Vec<u8>, NoMemory>
+fn without_directives(alloc: Global, text: &[u8], shown: &[SourceByte]) -> Result<Vec<u8>, NoMemory>
     requires { shown.now ≡ shown_bytes text.now }
     ensures { IfOk result (λ left. left.items ≡ erased text.now) }
 {

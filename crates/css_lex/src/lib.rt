@@ -4,11 +4,16 @@
 mod characters;
 mod comments;
 mod erasure;
+mod laws;
 mod lexeme_class;
 mod line_kind;
 mod source;
 
 pub use erasure::erase;
+pub use laws::erasing_keeps_newlines;
 pub use lexeme_class::LexemeClass;
 pub use line_kind::LineKind;
 pub use source::SourceByte;
+
+#[cfg(test)]
+mod tests;

@@ -17,7 +17,7 @@ loop-source-preserved c =
       | then-source-eq10+in_ok-push_kept w ↦
           same_left text shown w.push_kept.new.left.items _ [] _ to _ (place + 1)
           (line_left text shown left w.push_kept.new.left.items line from place c.loop-source.invariant c.loop-source-test.true w.if-source-eq10.true
-            (w.in_ok-push_kept.ensures ∙ ap (λ k. left ++ kept_of k (take (to - from) (drop from text))) (w.kind_of_line.ensures ∙ ap line_kind w.as_slice.ensures.value)))
+          (w.in_ok-push_kept.ensures ∙ ap (λ k. left ++ kept_of k (take (to - from) (drop from text))) (w.kind_of_line.ensures ∙ ap line_kind w.as_slice.ensures.value)))
           (ap (λ v. v.items) w.left-is) (ap (λ v. v.items) w.line-is ∙ w.clear.ensures.items) w.from-is
       | else-source-eq10+in_ok-push w ↦
           same_left text shown left _ w.push.new.self.items _ from _ (place + 1)
