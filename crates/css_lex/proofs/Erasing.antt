@@ -36,11 +36,11 @@ at_place text place = get_or text place (record { byte = 0; place = 0 })
 rest_at : (shown : List SourceByte) (place : ℕ) → place < length shown → drop place shown ≡ at_place shown place ∷ drop (place + 1) shown
 rest_at shown place inside = drop_more shown place (record { byte = 0; place = 0 }) inside
 
-newline_line : (from to : ℕ) (front : List SourceByte) (c : SourceByte) (rest : List SourceByte) → c.byte ≡ 10
+pub newline_line : (from to : ℕ) (front : List SourceByte) (c : SourceByte) (rest : List SourceByte) → c.byte ≡ 10
     → lines_from from to front (c ∷ rest) ≡ record { bytes = front; from = from; to = c.place + 1 } ∷ lines_from (c.place + 1) to [] rest
 newline_line from to front c rest newline = let e = eq-eqb c.byte 10 newline in rw (lines_from, e) refl
 
-other_line : (from to : ℕ) (front : List SourceByte) (c : SourceByte) (rest : List SourceByte) → (c.byte ≡ 10 → ⊥)
+pub other_line : (from to : ℕ) (front : List SourceByte) (c : SourceByte) (rest : List SourceByte) → (c.byte ≡ 10 → ⊥)
     → lines_from from to front (c ∷ rest) ≡ lines_from from to (front ++ c ∷ []) rest
 other_line from to front c rest other = let e = ne_eqb c.byte 10 other in rw (lines_from, e) refl
 

@@ -7,3 +7,7 @@ pub mod Uncommenting
 pub mod Places
 pub mod Erasing
 pub mod Counting
+pub mod Cutting
+pub mod Shifting
+pub mod SpliceCuts
+pub mod Twice

@@ -6,3 +6,8 @@ ghost use Rattle.css_lex.specs.Lines.{erased, newlines};
 pub fn erasing_keeps_newlines()
     ensures { (text : List ℕ) → newlines (erased text) ≡ newlines text }
 {}
+
+/// To take the directives out twice is to take them out once.
+pub fn erasing_twice_is_once()
+    ensures { (text : List ℕ) → erased (erased text) ≡ erased text }
+{}

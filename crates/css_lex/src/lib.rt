@@ -10,7 +10,7 @@ mod line_kind;
 mod source;
 
 pub use erasure::erase;
-pub use laws::erasing_keeps_newlines;
+pub use laws::{erasing_keeps_newlines, erasing_twice_is_once};
 pub use lexeme_class::LexemeClass;
 pub use line_kind::LineKind;
 pub use source::SourceByte;
