@@ -1,11 +1,10 @@
 -- Erasing keeps the newlines.
-use Rattle.std.proofs.Common.{◌≡◌, ℕ, ◌+◌, ◌-◌, ◌<◌, ◌≤◌, Bool, true, false, List, [], ◌∷◌, ◌++◌, length, drop, take, refl, ap, ap₂, sym, ◌∙◌, subst, arith, take-append-drop, cond}
-use Rattle.std.specs.Prelude.{flat_map, slice_range, filter, count_by, ◌==◌}
+use Rattle.std.proofs.Common.{◌≡◌, ℕ, ◌+◌, ◌-◌, ◌≤◌, Bool, true, false, List, [], ◌∷◌, ◌++◌, length, drop, take, refl, ap, ap₂, sym, ◌∙◌, arith, take-append-drop, cond}
+use Rattle.std.specs.Prelude.{flat_map, slice_range, filter, ◌==◌}
 use Rattle.std.proofs.lemmas.List.{drop-drop, append-nil}
 use Rattle.std.proofs.lemmas.List.Sums.{length-filter, sum_by-append}
 use Rattle.css_lex.specs.declared.source.SourceByte.{SourceByte}
 use Rattle.css_lex.specs.declared.line_kind.LineKind.{LineKind}
-use Rattle.css_lex.specs.Source.{unspliced}
 use Rattle.css_lex.specs.Lines.{LogicalLine, lines_from, shown_bytes, logical_lines, is_css, kind_of_line, kept_of, newlines, erased}
 use Rattle.css_lex.proofs.Rests.{rest_is}
 use Rattle.css_lex.proofs.Places.{AreBetween, from_lower, shown_between}

@@ -1,11 +1,11 @@
 -- What stands up to a newline that ends a line doesn't depend on what follows it.
-use Rattle.std.proofs.Common.{◌≡◌, ℕ, zero, suc, ◌+◌, ◌-◌, ◌<◌, ◌≤◌, min, Bool, true, false, not, ◌&&◌, ◌||◌, List, [], ◌∷◌, ◌++◌, length, drop, take, map, cond, refl, ap, ap₂, sym, ◌∙◌, subst, arith, length-append, get_or}
+use Rattle.std.proofs.Common.{◌≡◌, ℕ, zero, suc, ◌+◌, ◌-◌, ◌<◌, ◌≤◌, min, Bool, true, false, not, ◌&&◌, List, [], ◌∷◌, ◌++◌, length, drop, cond, refl, ap, ap₂, sym, ◌∙◌, subst, arith, length-append, get_or}
 use Rattle.std.specs.Prelude.{codes, ◌==◌}
 use Rattle.std.proofs.lemmas.List.{map-append, length-map}
 use Rattle.std.proofs.lemmas.Bool.{eqb-false}
 use Rattle.css_lex.proofs.Uncommenting.{comment_passed, comment_next, byte_next}
 use Rattle.css_lex.specs.declared.source.SourceByte.{SourceByte}
-use Rattle.css_lex.specs.Source.{begins_with, splice_length, unspliced, bytes_of}
+use Rattle.css_lex.specs.Source.{begins_with, splice_length, bytes_of}
 use Rattle.css_lex.specs.Comments.{length_before, comment_length, is_quote, constant_rest, constant_length, passes_over, constant_behind, front_behind, uncommented}
 
 -- Splices.
@@ -205,8 +205,8 @@ next_cut front c us (x ∷ out) nl rest (suc n) is e newline cuts = record {
     long others =
         sym (ap comment_length (bytes_are others)
         ∙ same_comment c.byte (bytes_of r.before) (bytes_of r.behind) (bytes_of others) (suc n)
-          (ap comment_length (sym (bytes_are r.behind)) ∙ ap (λ z. comment_length (bytes_of (c ∷ z))) (sym r.parts) ∙ is)
-          (let l : length (bytes_of r.before) ≡ length r.before = length-map r.before (λ b. b.byte) in omega (arith, l, r.hidden_before)))
+        (ap comment_length (sym (bytes_are r.behind)) ∙ ap (λ z. comment_length (bytes_of (c ∷ z))) (sym r.parts) ∙ is)
+        (let l : length (bytes_of r.before) ≡ length r.before = length-map r.before (λ b. b.byte) in omega (arith, l, r.hidden_before)))
 
     again : (others : List SourceByte) → uncommented front 0 0 (c ∷ r.before ++ nl ∷ others) ≡ x ∷ out ++ nl ∷ uncommented [] 0 0 others
     again others =

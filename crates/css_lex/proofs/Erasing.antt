@@ -1,12 +1,11 @@
 -- Erasing line by line.
-use Rattle.std.proofs.Common.{◌≡◌, ℕ, zero, suc, ◌+◌, ◌-◌, ◌<◌, ◌≤◌, List, [], ◌∷◌, ◌++◌, length, drop, take, get_or, map, refl, ap, sym, ◌∙◌, subst, arith, append_assoc, eq-eqb}
+use Rattle.std.proofs.Common.{◌≡◌, ℕ, ◌+◌, ◌<◌, ◌≤◌, List, [], ◌∷◌, ◌++◌, length, drop, get_or, refl, ap, sym, ◌∙◌, subst, arith, append_assoc, eq-eqb}
 use Rattle.std.specs.Prelude.{flat_map, slice_range}
 use Rattle.std.proofs.lemmas.List.{drop_more, append-nil, map-append}
 use Rattle.std.proofs.lemmas.Bool.{ne_eqb}
 use Rattle.std.proofs.Math.Seq.{drop-length}
 use Rattle.css_lex.specs.declared.source.SourceByte.{SourceByte}
-use Rattle.css_lex.specs.Source.{unspliced, bytes_of}
-use Rattle.css_lex.specs.Comments.{uncommented}
+use Rattle.css_lex.specs.Source.{bytes_of}
 use Rattle.css_lex.specs.LineKinds.{line_kind}
 use Rattle.css_lex.specs.Lines.{LogicalLine, lines_from, shown_bytes, kind_of_line, kept_of, erased}
 use Rattle.css_lex.proofs.Places.{AreBetween, from_lower, shown_between}

@@ -1,10 +1,10 @@
 -- What is known of a line, one byte later.
-use Rattle.std.proofs.Common.{◌≡◌, ℕ, ◌+◌, Bool, true, false, not, List, [], ◌∷◌, ◌++◌, length, take, refl, ap, sym, ◌∙◌, arith, append_assoc, take_at, eq-eqb, length-append, Some, None, Option}
+use Rattle.std.proofs.Common.{◌≡◌, ℕ, ◌+◌, Bool, true, false, not, List, [], ◌∷◌, ◌++◌, length, take, refl, ap, sym, ◌∙◌, arith, append_assoc, take_at, eq-eqb, length-append, Some, None}
 use Rattle.std.proofs.Math.Seq.{take-length}
 use Rattle.std.proofs.lemmas.List.Folds.{length-prefix_len, prefix_len-append}
 use Rattle.std.specs.List.{prefix_len}
 use Rattle.css_lex.specs.LineKinds.{line_kind}
-use Rattle.css_lex.specs.Comments.{is_quote, is_passed_over, unquoted, passes_over, constant_behind, constant_length}
+use Rattle.css_lex.specs.Comments.{is_quote, is_passed_over, unquoted, passes_over}
 use Rattle.css_lex.specs.Fronts.{IsKnown}
 
 abbrev pub IsPlain : List ℕ → Type 0

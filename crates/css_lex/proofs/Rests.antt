@@ -1,5 +1,5 @@
 -- What stands in a list from a place on.
-use Rattle.std.proofs.Common.{◌≡◌, ℕ, ◌-◌, List, length, take, drop, ap, sym, ◌∙◌, arith, length-drop}
+use Rattle.std.proofs.Common.{◌≡◌, ℕ, ◌-◌, List, length, take, drop, ap, sym, ◌∙◌, length-drop}
 use Rattle.std.proofs.Math.Seq.{take-length}
 
 -- The slice from a place on.

@@ -1,12 +1,12 @@
 -- A text that stands at another place shows the same.
-use Rattle.std.proofs.Common.{◌≡◌, ℕ, zero, suc, ◌+◌, ◌-◌, ◌<◌, ◌≤◌, Bool, true, false, List, [], ◌∷◌, ◌++◌, length, drop, take, map, cond, refl, ap, ap₂, sym, ◌∙◌, subst, arith, length-append, append_assoc}
-use Rattle.std.specs.Prelude.{flat_map, slice_range, ◌==◌}
+use Rattle.std.proofs.Common.{◌≡◌, ℕ, zero, suc, ◌+◌, ◌-◌, Bool, true, false, List, [], ◌∷◌, ◌++◌, length, drop, take, map, cond, refl, ap, ap₂, sym, ◌∙◌, arith}
+use Rattle.std.specs.Prelude.{slice_range, ◌==◌}
 use Rattle.std.proofs.lemmas.List.{map-append, drop-drop, drop_at}
 use Rattle.css_lex.specs.declared.source.SourceByte.{SourceByte}
 use Rattle.css_lex.specs.Source.{splice_length, unspliced, bytes_of}
 use Rattle.css_lex.specs.Comments.{comment_length, constant_behind, front_behind, uncommented}
 use Rattle.css_lex.specs.LineKinds.{line_kind}
-use Rattle.css_lex.specs.Lines.{LogicalLine, lines_from, kind_of_line, kept_of}
+use Rattle.css_lex.specs.Lines.{lines_from, kept_of}
 use Rattle.css_lex.proofs.Erasing.{left_of}
 
 abbrev pub moved : ℕ → SourceByte → SourceByte
@@ -74,9 +74,9 @@ left_behind l r from to front (c ∷ bytes) =
         → left_of (l ++ r) (lines_from (c.place + 1 + length l) (to + length l) [] (all_moved (length l) bytes)) ≡ left_of r (lines_from (c.place + 1) to [] bytes)
         → left_of (l ++ r) (lines_from (from + length l) (to + length l) (all_moved (length l) (front ++ c ∷ [])) (all_moved (length l) bytes)) ≡ left_of r (lines_from from to (front ++ c ∷ []) bytes)
         → left_of (l ++ r) (cond newline
-            (record { bytes = all_moved (length l) front; from = from + length l; to = c.place + length l + 1 } ∷ lines_from (c.place + length l + 1) (to + length l) [] (all_moved (length l) bytes))
-            (lines_from (from + length l) (to + length l) (all_moved (length l) front ++ moved (length l) c ∷ []) (all_moved (length l) bytes)))
-          ≡ left_of r (cond newline (record { bytes = front; from = from; to = c.place + 1 } ∷ lines_from (c.place + 1) to [] bytes) (lines_from from to (front ++ c ∷ []) bytes))
+        (record { bytes = all_moved (length l) front; from = from + length l; to = c.place + length l + 1 } ∷ lines_from (c.place + length l + 1) (to + length l) [] (all_moved (length l) bytes))
+        (lines_from (from + length l) (to + length l) (all_moved (length l) front ++ moved (length l) c ∷ []) (all_moved (length l) bytes)))
+        ≡ left_of r (cond newline (record { bytes = front; from = from; to = c.place + 1 } ∷ lines_from (c.place + 1) to [] bytes) (lines_from from to (front ++ c ∷ []) bytes))
     by true a b =
         ap (λ t. kept_of (line_kind (bytes_of (all_moved (length l) front))) (slice_range (l ++ r) (from + length l) t) ++ left_of (l ++ r) (lines_from t (to + length l) [] (all_moved (length l) bytes))) (omega arith)
         ∙ ap₂ ◌++◌ (part_behind l r front from (c.place + 1)) a

@@ -1,7 +1,7 @@
 -- The bytes of a text up to a newline that is no splice's.
-use Rattle.std.proofs.Common.{◌≡◌, ℕ, zero, suc, ◌+◌, ◌≤◌, List, [], ◌∷◌, ◌++◌, length, drop, get_or, refl, ap, ap₂, sym, ◌∙◌, subst, arith, length-append}
+use Rattle.std.proofs.Common.{◌≡◌, ℕ, zero, suc, ◌+◌, List, [], ◌∷◌, ◌++◌, length, drop, get_or, refl, ap, ap₂, sym, ◌∙◌, arith, length-append}
 use Rattle.css_lex.specs.declared.source.SourceByte.{SourceByte}
-use Rattle.css_lex.specs.Source.{splice_length, unspliced, bytes_of}
+use Rattle.css_lex.specs.Source.{splice_length, unspliced}
 use Rattle.css_lex.specs.Lines.{shown_bytes}
 use Rattle.css_lex.specs.Comments.{uncommented}
 use Rattle.css_lex.proofs.Cutting.{Cut, cut, same_splice}

@@ -3,7 +3,6 @@ use Rattle.std.proofs.Common.{◌≡◌, ℕ, zero, suc, ◌+◌, ◌<◌, ◌�
 use Rattle.std.specs.Prelude.{filter, slice_range, ◌==◌}
 use Rattle.std.proofs.Math.Seq.{take-length}
 use Rattle.std.proofs.lemmas.List.{append-nil}
-use Rattle.std.proofs.lemmas.List.Elements.{filter-append}
 use Rattle.std.proofs.lemmas.Bool.{eqb-true}
 use Rattle.std.proofs.lemmas.Bool.Decides.{eqb_tells}
 use Rattle.css_lex.specs.declared.source.SourceByte.{SourceByte}
@@ -11,7 +10,7 @@ use Rattle.css_lex.specs.declared.line_kind.LineKind.{LineKind}
 use Rattle.css_lex.specs.Source.{unspliced, bytes_of}
 use Rattle.css_lex.specs.Comments.{uncommented}
 use Rattle.css_lex.specs.LineKinds.{line_kind}
-use Rattle.css_lex.specs.Lines.{LogicalLine, lines_from, shown_bytes, is_css, kept_of, erased}
+use Rattle.css_lex.specs.Lines.{lines_from, shown_bytes, is_css, kept_of, erased}
 use Rattle.css_lex.proofs.Erasing.{left_of, newline_line, other_line}
 use Rattle.css_lex.proofs.Shifting.{all_moved, unspliced_moved, uncommented_moved, left_behind}
 use Rattle.css_lex.proofs.SpliceCuts.{LineCut, line_cut}
@@ -90,7 +89,7 @@ erased_first text out nl l one newline others =
     there : left_of (front ++ others) (lines_from (nl.place + 1) (length (front ++ others)) [] (all_moved (length l.before + 1) (shown_bytes others))) ≡ erased others
     there =
         ap₂ (λ a b. left_of (front ++ others) (lines_from a b [] (all_moved (length l.before + 1) (shown_bytes others)))) (sym size ∙ omega arith)
-          (length-append front others ∙ omega arith)
+        (length-append front others ∙ omega arith)
         ∙ ap (λ n. left_of (front ++ others) (lines_from (0 + length front) (length others + length front) [] (all_moved n (shown_bytes others)))) (let a = length-append l.before (10 ∷ []) in omega (arith, a))
         ∙ left_behind front others 0 (length others) [] (shown_bytes others)
 

@@ -1,5 +1,5 @@
 -- The kinds of logical lines (C99 6.10), by the line's bytes without comments.
-use Rattle.std.specs.Prelude.{ℕ, ◌+◌, Bool, true, false, ◌&&◌, ◌||◌, List, [], ◌∷◌, length, drop, take_while, codes, bytes_eq, nat_le, ◌==◌, if◌then◌else◌}
+use Rattle.std.specs.Prelude.{ℕ, Bool, ◌&&◌, ◌||◌, List, [], ◌∷◌, length, drop, take_while, codes, bytes_eq, nat_le, ◌==◌, if◌then◌else◌}
 use Rattle.css_lex.specs.declared.line_kind.LineKind.{LineKind}
 use Rattle.css_lex.specs.declared.line_kind.LineKind.TheVariants as kinds
 use Rattle.css_lex.specs.Source.{begins_with}

@@ -3,7 +3,7 @@ use Rattle.std.specs.Prelude.{ℕ, zero, suc, ◌+◌, Bool, true, false, not, �
 use Rattle.std.specs.List.{list_any}
 use Rattle.css_base.specs.declared.int_type.IntType.{IntType}
 use Rattle.css_base.specs.declared.int_type.IntType.TheVariants as types
-use Rattle.css_base.specs.Tokens.{Kind, Word, Number, Character, Text, Punctuator, Directive}
+use Rattle.css_base.specs.Tokens.{Kind, Word, Number, Character, Text, Punctuator}
 
 -- A macro: its name, what replaces it, and whether it is predefined.
 pub record Macro : Type 0 where

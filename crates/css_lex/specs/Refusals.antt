@@ -1,6 +1,5 @@
 -- Which static rule a text of a length that is allowed breaks first, of those on bytes, tokens, macros and constants.
-use Rattle.std.specs.Prelude.{◌≡◌, ℕ, ◌+◌, Bool, true, false, not, ◌&&◌, ◌||◌, List, [], ◌∷◌, ◌++◌, length, map, drop, filter, filter_map, flat_map, codes, nat_le, nat_lt, ◌==◌, if◌then◌else◌, Option, Some, None, is_some, is_none, option_map}
-use Rattle.std.specs.List.{list_any, list_all}
+use Rattle.std.specs.Prelude.{ℕ, ◌+◌, Bool, true, false, not, ◌&&◌, ◌||◌, List, [], ◌∷◌, ◌++◌, length, map, drop, filter, filter_map, flat_map, codes, nat_le, nat_lt, ◌==◌, if◌then◌else◌, Option, Some, None, is_none, option_map}
 use Rattle.css_base.specs.declared.static_fault.StaticFault.{StaticFault}
 use Rattle.css_base.specs.declared.static_fault.StaticName.{StaticName}
 use Rattle.css_base.specs.declared.static_fault.StaticName.TheVariants as names
@@ -9,8 +8,8 @@ use Rattle.css_lex.specs.declared.line_kind.LineKind.TheVariants as kinds
 use Rattle.css_lex.specs.declared.source.SourceByte.{SourceByte}
 use Rattle.css_lex.specs.Source.{begins_with, unspliced, bytes_of}
 use Rattle.css_lex.specs.Comments.{length_before}
-use Rattle.css_lex.specs.Lines.{LogicalLine, kind_of_line}
-use Rattle.css_lex.specs.Lexemes.{Shape, Blank, Lexeme, Stray, Piece}
+use Rattle.css_lex.specs.Lines.{kind_of_line}
+use Rattle.css_lex.specs.Lexemes.{Shape, Lexeme, Stray, Piece}
 use Rattle.css_lex.specs.Macros.{Table, may_define, replacement, replacement_names, predefined_macros}
 use Rattle.css_lex.specs.Reading.{ReadLine, Definition, over_lines, solid, read_pieces, kind_of_piece, place_of, definition_of, undefined_of}
 use Rattle.css_lex.specs.Spelling.{line_at, first_place}

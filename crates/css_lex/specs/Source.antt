@@ -1,5 +1,5 @@
 -- Translation phase 2 (C99 5.1.1.2): line splices are taken out of the text, and each other byte keeps its place.
-use Rattle.std.specs.Prelude.{ℕ, zero, suc, ◌+◌, ◌-◌, Bool, List, [], ◌∷◌, map, codes, nat_eq, ◌==◌, if◌then◌else◌}
+use Rattle.std.specs.Prelude.{ℕ, zero, suc, ◌+◌, Bool, List, [], ◌∷◌, map, codes, nat_eq, if◌then◌else◌}
 use Rattle.std.specs.List.{starts_with}
 use Rattle.css_lex.specs.declared.source.SourceByte.{SourceByte}
 

@@ -1,5 +1,5 @@
 -- What a lexeme stands for: integer constants (C99 6.4.4.1), character constants (C99 6.4.4.4) and strings (C99 6.4.5).
-use Rattle.std.specs.Prelude.{ℕ, zero, suc, ◌+◌, ◌-◌, ◌*◌, ◌^◌, Bool, true, false, ◌&&◌, ◌||◌, not, List, [], ◌∷◌, ◌++◌, length, take, drop, reverse, map, filter, find, fold, take_while, codes, bytes_eq, nat_le, nat_lt, ◌==◌, if◌then◌else◌, Option, Some, None, option_map, option_and_then}
+use Rattle.std.specs.Prelude.{ℕ, zero, suc, ◌+◌, ◌-◌, ◌*◌, ◌^◌, Bool, true, false, ◌&&◌, ◌||◌, not, List, [], ◌∷◌, length, take, drop, find, fold, take_while, codes, bytes_eq, nat_le, nat_lt, ◌==◌, if◌then◌else◌, Option, Some, None, option_map, option_and_then}
 use Rattle.css_base.specs.declared.int_type.IntType.{IntType}
 use Rattle.css_base.specs.declared.int_type.IntType.TheVariants as types
 use Rattle.css_base.specs.Tokens.{Kind, Word, Number, Character, Text, Punctuator}

@@ -1,7 +1,7 @@
-use Rattle.std.proofs.Common.{◌≡◌, ◌+◌, ◌-◌, ◌≤◌, List, [], ◌∷◌, length, drop}
-use Rattle.std.specs.Prelude.{codes, false}
+use Rattle.std.proofs.Common.{◌≡◌, ◌+◌, ◌-◌, ◌≤◌, length, drop}
+use Rattle.std.specs.Prelude.{codes}
 use Rattle.css_lex.specs.Source.{bytes_of}
-use Rattle.css_lex.specs.Comments.{length_before, constant_rest}
+use Rattle.css_lex.specs.Comments.{length_before}
 use Rattle.css_lex.proofs.comments.length_before_newline.Given as goal
 
 abbrev pub invariant-loop-end : goal.invariant-loop-end

@@ -1,4 +1,4 @@
-use Rattle.std.proofs.Common.{◌∙◌, ap, sym, ◌∷◌, [], ◌+◌, length, arith}
+use Rattle.std.proofs.Common.{◌∙◌, sym, ◌∷◌, [], arith}
 use Rattle.css_lex.proofs.Rests.{rest_is}
 use Rattle.css_lex.proofs.CommentEnds.{before_more}
 use Rattle.css_lex.proofs.comments.length_before_pair.Goals as goal

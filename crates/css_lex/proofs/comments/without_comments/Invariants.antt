@@ -1,4 +1,4 @@
-use Rattle.std.proofs.Common.{◌≡◌, ℕ, ◌-◌, ◌≤◌, [], ◌++◌, length, drop}
+use Rattle.std.proofs.Common.{◌≡◌, ◌-◌, ◌≤◌, [], ◌++◌, length, drop}
 use Rattle.css_lex.specs.Comments.{uncommented}
 use Rattle.css_lex.proofs.comments.without_comments.Given as goal
 

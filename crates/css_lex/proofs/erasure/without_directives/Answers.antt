@@ -1,8 +1,7 @@
-use Rattle.std.proofs.Common.{◌≡◌, ◌∙◌, [], ap, sym, ◌+◌, ◌-◌, ◌++◌, take, drop}
-use Rattle.css_lex.specs.declared.source.SourceByte.{SourceByte}
+use Rattle.std.proofs.Common.{◌∙◌, [], ap, ◌+◌, ◌-◌, ◌++◌, take, drop}
 use Rattle.css_lex.specs.LineKinds.{line_kind}
 use Rattle.css_lex.specs.Lines.{kept_of}
-use Rattle.css_lex.proofs.Erasing.{IsLeft, at_place, none_left, line_left, byte_left, same_left}
+use Rattle.css_lex.proofs.Erasing.{at_place, none_left, line_left, byte_left, same_left}
 use Rattle.css_lex.proofs.erasure.without_directives.Goals as goal
 use Rattle.css_lex.proofs.erasure.without_directives.Goals.{then-source-eq10+in_ok-push_kept, else-source-eq10+in_ok-push}
 

@@ -1,8 +1,7 @@
-use Rattle.std.proofs.Common.{◌≡◌, ◌∙◌, sym, ap, drop, length}
+use Rattle.std.proofs.Common.{◌∙◌, sym, ap, length}
 use Rattle.std.specs.Prelude.{bytes_eq}
 use Rattle.css_lex.proofs.Rests.{rest_is}
 use Rattle.css_lex.proofs.LineKinds.{pragma_line}
-use Rattle.css_lex.specs.LineKinds.{first_word, pragma_kind}
 use Rattle.css_lex.proofs.line_kind.kind_behind_hash.Goals as goal
 
 pub returns-then-eq-4 : goal.returns-then-eq-4
