@@ -1,0 +1,13 @@
+pub mod Rests
+pub mod Splices
+pub mod LineKinds
+pub mod CommentEnds
+pub mod Knowing
+pub mod Uncommenting
+pub mod Places
+pub mod Erasing
+pub mod Counting
+pub mod Cutting
+pub mod Shifting
+pub mod SpliceCuts
+pub mod Twice

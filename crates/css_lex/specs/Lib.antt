@@ -1,0 +1,12 @@
+pub mod Source
+pub mod LineKinds
+pub mod Comments
+pub mod Fronts
+pub mod Lines
+pub mod Lexemes
+pub mod Values
+pub mod Macros
+pub mod Reading
+pub mod Spelling
+pub mod Refusals
+pub mod Lexing
