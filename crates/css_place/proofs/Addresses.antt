@@ -1,20 +1,11 @@
 -- Free addresses, fronts of holes and changes.
-<<<<<<< HEAD
 use Rattle.std.proofs.Common.{zero, suc, ◌≡◌, ◌<◌, ◌≤◌, ℕ, List, [], ◌∷◌, ◌++◌, length, arith, All, AllPairs, Contains, subst, sym, ap, ◌∙◌, ◌⊎◌, inl, inr, length-append, get_or}
-=======
-use Rattle.std.proofs.Common.{zero, suc, ◌≡◌, ◌<◌, ◌≤◌, ◌+◌, ℕ, List, [], ◌∷◌, ◌++◌, length, arith, All, AllPairs, Contains, subst, sym, ap, ◌∙◌, ◌⊎◌, inl, inr, length-append, get_or}
->>>>>>> fa9293d1db476faab92dbb36065565fd49aa6f32
 use Rattle.std.proofs.lemmas.Bool.{cases_lt}
 use Rattle.std.proofs.lemmas.List.{get_or_default}
 use Rattle.std.proofs.lemmas.List.Elements.{All-nil, All-cons, All-head, All-tail, All-append, All-weaker}
 use Rattle.css_place.specs.declared.stretch.Stretch.{Stretch}
-<<<<<<< HEAD
 use Rattle.css_place.specs.Places.{Store, IsPlaced, end_of}
 use Rattle.css_place.specs.Holes.{IsIn, IsFree, HasRoom, HoleHolds, IsFirstFit, IsFull}
-=======
-use Rattle.css_place.specs.Places.{Store, IsAligned, IsPlaced, end_of}
-use Rattle.css_place.specs.Holes.{IsIn, IsFree, HasRoom, IsFront, HoleHolds, IsFirstFit, IsFull}
->>>>>>> fa9293d1db476faab92dbb36065565fd49aa6f32
 use Rattle.css_place.specs.Changes.{Adds}
 use Rattle.css_place.proofs.Insertions.{All-inserted, All-removed, All-middle, AllPairs-before, AllPairs-after}
 

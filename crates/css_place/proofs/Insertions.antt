@@ -1,9 +1,5 @@
 -- What holds of each element, and of each pair, of a list that one more is put into or taken out of.
-<<<<<<< HEAD
 use Rattle.std.proofs.Common.{suc, List, [], ◌∷◌, ◌++◌, arith, All, AllPairs}
-=======
-use Rattle.std.proofs.Common.{suc, ◌≡◌, ◌<◌, ◌+◌, ℕ, List, [], ◌∷◌, ◌++◌, length, arith, All, AllPairs}
->>>>>>> fa9293d1db476faab92dbb36065565fd49aa6f32
 use Rattle.std.proofs.lemmas.List.Elements.{All-nil, All-cons, All-head, All-tail, All-append}
 use Rattle.std.proofs.lemmas.List.Kept.{AllPairs-cons}
 

@@ -1,9 +1,5 @@
 -- What is out beside one place.
-<<<<<<< HEAD
 use Rattle.std.proofs.Common.{zero, suc, ◌≡◌, ◌≢◌, ◌<◌, ◌≤◌, List, ◌∷◌, refl, arith, All, AllPairs, Contains, subst, sym, ap, ◌⊎◌, inl, inr}
-=======
-use Rattle.std.proofs.Common.{zero, suc, ◌≡◌, ◌≢◌, ◌<◌, ◌≤◌, ◌+◌, ℕ, List, [], ◌∷◌, ◌++◌, length, refl, arith, All, AllPairs, Contains, subst, sym, ap, ◌∙◌, ◌⊎◌, inl, inr}
->>>>>>> fa9293d1db476faab92dbb36065565fd49aa6f32
 use Rattle.std.proofs.lemmas.List.Elements.{All-contains, Contains-append_left, Contains-append_right, Contains-append_cases}
 use Rattle.css_place.specs.declared.stretch.Stretch.{Stretch}
 use Rattle.css_place.specs.Places.{Store, IsAligned, IsPlaced, end_of}

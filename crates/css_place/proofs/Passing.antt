@@ -1,24 +1,13 @@
 -- The walk over the gaps between the places out.
-<<<<<<< HEAD
 use Rattle.std.proofs.Common.{suc, ◌≡◌, ◌<◌, ◌≤◌, ◌+◌, ◌-◌, ◌%◌, ℕ, List, [], ◌∷◌, ◌++◌, length, take, drop, arith, All, AllPairs, subst, sym, ap, ◌∙◌, inl, inr, get_or}
 use Rattle.std.proofs.lemmas.Bool.{cases_lt}
 use Rattle.std.proofs.lemmas.List.{get_or_default, take-append-drop, drop_all, take_more}
 use Rattle.std.proofs.lemmas.List.Elements.{All-nil, All-cons, All-head, All-append, All-weaker, All-get_or}
-=======
-use Rattle.std.proofs.Common.{suc, ◌≡◌, ◌<◌, ◌≤◌, ◌+◌, ◌-◌, ◌%◌, ℕ, List, [], ◌∷◌, ◌++◌, length, take, drop, arith, All, AllPairs, subst, sym, ap, ◌∙◌, ◌⊎◌, inl, inr, get_or}
-use Rattle.std.proofs.lemmas.Bool.{cases_lt}
-use Rattle.std.proofs.lemmas.List.{get_or_default, take-append-drop, drop_all, take_more}
-use Rattle.std.proofs.lemmas.List.Elements.{All-nil, All-cons, All-head, All-tail, All-append, All-weaker, All-get_or}
->>>>>>> fa9293d1db476faab92dbb36065565fd49aa6f32
 use Rattle.std.proofs.Math.Seq.{drop-cons}
 use Rattle.css_place.specs.declared.stretch.Stretch.{Stretch}
 use Rattle.css_place.specs.declared.gaps.Gap.{Gap}
 use Rattle.css_place.specs.Places.{Store, IsAligned, IsPlaced, end_of}
-<<<<<<< HEAD
 use Rattle.css_place.specs.Holes.{IsIn, HasRoom, IsFront}
-=======
-use Rattle.css_place.specs.Holes.{IsIn, IsFree, HasRoom, IsFront, HoleHolds, IsFirstFit}
->>>>>>> fa9293d1db476faab92dbb36065565fd49aa6f32
 use Rattle.css_place.specs.Gaps.{IsFirstGap}
 use Rattle.css_place.proofs.Insertions.{AllPairs-before, AllPairs-after}
 

@@ -1,17 +1,9 @@
 -- The places out after one is placed or released.
-<<<<<<< HEAD
 use Rattle.std.proofs.Common.{suc, ◌≡◌, ◌<◌, ◌≤◌, ◌+◌, ◌%◌, ℕ, List, length, take, drop, arith, All, AllPairs, insert, remove, refl, subst, sym, get_or}
-=======
-use Rattle.std.proofs.Common.{suc, ◌≡◌, ◌<◌, ◌≤◌, ◌+◌, ◌%◌, ℕ, List, ◌∷◌, ◌++◌, length, take, drop, arith, All, AllPairs, Contains, insert, remove, refl, subst, sym, ap, ◌∙◌, get_or}
->>>>>>> fa9293d1db476faab92dbb36065565fd49aa6f32
 use Rattle.std.proofs.lemmas.List.{take-append-drop}
 use Rattle.std.proofs.lemmas.List.Elements.{All-append, All-take, All-drop, All-weaker}
 use Rattle.std.proofs.lemmas.List.Edits.{length-insert, length-remove}
 use Rattle.std.proofs.lemmas.List.Quantifiers.{all_pairs_remove}
-<<<<<<< HEAD
-=======
-use Rattle.std.proofs.Math.Seq.{drop-cons}
->>>>>>> fa9293d1db476faab92dbb36065565fd49aa6f32
 use Rattle.css_place.specs.declared.stretch.Stretch.{Stretch}
 use Rattle.css_place.specs.declared.gaps.Gap.{Gap}
 use Rattle.css_place.specs.Places.{Store, IsAligned, IsPlaced, end_of}

@@ -4,12 +4,8 @@ use Rattle.css_place.specs.declared.gaps.Gap.{Gap}
 use Rattle.css_place.specs.Places.{Store, end_of}
 use Rattle.css_place.specs.Holes.{IsFirstFit}
 
-<<<<<<< HEAD
 -- the gap, which stands between the places before that number and the others, is the first hole that holds so many
 -- addresses
-=======
--- the gap stands between the places before that number and the others, and holds so many addresses as the first hole
->>>>>>> fa9293d1db476faab92dbb36065565fd49aa6f32
 pub record IsFirstGap (store : Store) (bytes : ℕ) (gap : Gap) : Type 0 where
   pub number : gap.index ≤ length store.out
   pub before : All (λ s. end_of s ≤ gap.start) (take gap.index store.out)

@@ -1,8 +1,4 @@
-<<<<<<< HEAD
 -- The views of all seats go on to agree with the history, where one changes, one comes or one is spent.
-=======
--- How the views stay in order.
->>>>>>> fa9293d1db476faab92dbb36065565fd49aa6f32
 use Rattle.std.proofs.Common.{◌≡◌, ◌≢◌, ℕ, zero, suc, ◌<◌, true, false, true≢false, List, [], ◌∷◌, ◌++◌, length, set, ap, sym, ◌∙◌, subst, ⊎_elim, arith}
 use Rattle.std.proofs.lemmas.List.Elements.{All-nil}
 use mathlib.Core.Logic.{dite}
@@ -33,13 +29,8 @@ module _ {E F : Type 0} where
       (λ (h : (j ≡ length views) × (w ≡ v)). subst (λ (u : SeatView E F). u.inside ≡ false) h.1 out) (at_end views w v j at)
 
   -- the pass keeps its number and its splits
-<<<<<<< HEAD
   pub first_kept : (n : ℕ) (views : List (SeatView E F)) (i : ℕ) (v w : SeatView E F) → IsFirstPass n views → get_elem? views i ≡ some v → w.number ≡ v.number → w.spent ≡ false → w.splits ≡ v.splits → IsFirstPass n (set views i w)
   first_kept n views i v w top at number live splits = dite (ℕ_discrete 0 i)
-=======
-  pub top_same : (n : ℕ) (views : List (SeatView E F)) (i : ℕ) (v w : SeatView E F) → IsFirstPass n views → get_elem? views i ≡ some v → w.number ≡ v.number → w.spent ≡ false → w.splits ≡ v.splits → IsFirstPass n (set views i w)
-  top_same n views i v w top at number live splits = dite (ℕ_discrete 0 i)
->>>>>>> fa9293d1db476faab92dbb36065565fd49aa6f32
       (λ here.
       let at0 : get_elem? views 0 ≡ some v = subst (λ (k : ℕ). get_elem? views k ≡ some v) (sym here) at in
       let same : v ≡ top.0 = some-injective v top.0 (sym at0 ∙ top.1) in
@@ -49,11 +40,7 @@ module _ {E F : Type 0} where
 
   module _ (maker : E → ℕ) (f : F) where
     -- one pass knows something else, and the history may have seat_after_leave on
-<<<<<<< HEAD
     pub one_changed : (log log' : List E) (n n' : ℕ) (views : List (SeatView E F)) (i : ℕ) (v w : SeatView E F)
-=======
-    pub reseated : (log log' : List E) (n n' : ℕ) (views : List (SeatView E F)) (i : ℕ) (v w : SeatView E F)
->>>>>>> fa9293d1db476faab92dbb36065565fd49aa6f32
         → AllAgree maker f log n views → get_elem? views i ≡ some v → v.spent ≡ false → w.number ≡ v.number
         → Agrees maker f log' n' w
         → ((j : ℕ) (u : SeatView E F) → get_elem? views j ≡ some u → j ≢ i → u.spent ≡ false → Agrees maker f log' n' u)
@@ -62,11 +49,7 @@ module _ {E F : Type 0} where
         → IsFirstPass n' (set views i w)
         → ((k : ℕ) → n' < k → entries_of maker k log' ≡ [])
         → AllAgree maker f log' n' (set views i w)
-<<<<<<< HEAD
     one_changed log log' n n' views i v w seats at live number fits others alone apart top none = record {
-=======
-    reseated log log' n n' views i v w seats at live number fits others alone apart top none = record {
->>>>>>> fa9293d1db476faab92dbb36065565fd49aa6f32
       each_view = λ j u at' live'. ⊎_elim (λ (h : (j ≡ i) × (w ≡ u)). subst (Agrees maker f log' n') h.1 fits)
           (λ (h : (j ≢ i) × (get_elem? views j ≡ some u)). others j u h.1 h.0 live') (at_set views i j w u at');
       one_inside = λ j k u t atj atk a b. ⊎_elim
@@ -96,21 +79,13 @@ module _ {E F : Type 0} where
     }
 
     -- a new pass, with a number of its own
-<<<<<<< HEAD
     pub one_more : (log : List E) (n : ℕ) (views : List (SeatView E F)) (w : SeatView E F)
-=======
-    pub seated_more : (log : List E) (n : ℕ) (views : List (SeatView E F)) (w : SeatView E F)
->>>>>>> fa9293d1db476faab92dbb36065565fd49aa6f32
         → AllAgree maker f log n views → w.inside ≡ false → Agrees maker f log n w
         → ((j : ℕ) (u : SeatView E F) → get_elem? views j ≡ some u → u.spent ≡ false → u.number ≢ w.number)
         → ((j : ℕ) (u : SeatView E F) → get_elem? views j ≡ some u → u.spent ≡ false → AllApart w.number u.joined)
         → w.joined ≡ []
         → AllAgree maker f log n (views ++ w ∷ [])
-<<<<<<< HEAD
     one_more log n views w seats out fits apart apart' none = record {
-=======
-    seated_more log n views w seats out fits apart apart' none = record {
->>>>>>> fa9293d1db476faab92dbb36065565fd49aa6f32
       each_view = λ j u at live. ⊎_elim (λ (h : get_elem? views j ≡ some u). seats.each_view j u h live)
           (λ (h : (j ≡ length views) × (w ≡ u)). subst (Agrees maker f log n) h.1 fits) (at_end views w u j at);
       one_inside = λ j k u t atj atk a b. ⊎_elim
@@ -134,17 +109,10 @@ module _ {E F : Type 0} where
     }
 
     -- a pass other than the first is spent
-<<<<<<< HEAD
     pub one_spent : (log : List E) (n : ℕ) (views : List (SeatView E F)) (o : ℕ) (w : SeatView E F)
         → AllAgree maker f log n views → get_elem? views o ≡ some w → w.number ≢ 0
         → AllAgree maker f log n (set views o seat_spent)
     one_spent log n views o w seats at apart = record {
-=======
-    pub retired : (log : List E) (n : ℕ) (views : List (SeatView E F)) (o : ℕ) (w : SeatView E F)
-        → AllAgree maker f log n views → get_elem? views o ≡ some w → w.number ≢ 0
-        → AllAgree maker f log n (set views o seat_spent)
-    retired log n views o w seats at apart = record {
->>>>>>> fa9293d1db476faab92dbb36065565fd49aa6f32
       each_view = λ j u at' live. ⊎_elim (λ (h : (j ≡ o) × (seat_spent ≡ u)). absurd (true≢false (ap (λ (x : SeatView E F). x.spent) h.1 ∙ live)))
           (λ (h : (j ≢ o) × (get_elem? views j ≡ some u)). seats.each_view j u h.1 live) (at_set views o j seat_spent u at');
       one_inside = λ j k u t atj atk a b. ⊎_elim

@@ -7,16 +7,8 @@ use std::collections::LinkedList;
 use std::marker::Model;
 use std::sync::Arc;
 
-<<<<<<< HEAD
 // The number of the pass, and the cell.
 pub type Claim = (u64, u64);
-=======
-#[derive(Clone, Copy)]
-pub struct Claim {
-    pub by: u64,
-    pub cell: u64,
-}
->>>>>>> fa9293d1db476faab92dbb36065565fd49aa6f32
 
 #[derive(Drop)]
 pub struct Board {
@@ -29,14 +21,8 @@ pub struct Board {
 // Contracts see the plan and the claims.
 impl Model for Board {
     ghost use Rattle.std.specs.Prelude.{◌<◌, ◌^◌, ℕ, List, vec_len};
-<<<<<<< HEAD
 
     ghost Value = { List ℕ × List (ℕ × ℕ) };
-=======
-    ghost use Rattle.css_seen.specs.declared.tests.board.Claim.{Claim};
-
-    ghost Value = { List ℕ × List Claim };
->>>>>>> fa9293d1db476faab92dbb36065565fd49aa6f32
 
     ghost view = { λ b. (b.plan.items, b.log.items) };
 
@@ -60,22 +46,14 @@ impl Board {
 
     // It stays as it was where there is no memory.
     pub fn claim(&mut self, by: u64, cell: u64) -> Result<(), AllocError>
-<<<<<<< HEAD
         ensures ok { OnOk result (self.new.1 ≡ self.old.1 ++ (by, cell) ∷ []) }
-=======
-        ensures ok { OnOk result (self.new.1 ≡ self.old.1 ++ record { by = by; cell = cell } ∷ []) }
->>>>>>> fa9293d1db476faab92dbb36065565fd49aa6f32
         ensures err { OnErr result (self.new.1 ≡ self.old.1) }
         ensures plan { self.new.0 ≡ self.old.0 }
     {
         if self.log.len() >= (1 << 62) - 1 {
             return Err(AllocError);
         }
-<<<<<<< HEAD
         self.log.push((by, cell))?;
-=======
-        self.log.push(Claim { by, cell })?;
->>>>>>> fa9293d1db476faab92dbb36065565fd49aa6f32
         Ok(())
     }
 }
@@ -88,11 +66,7 @@ impl Told for Board {
 
     ghost history = { λ b. b.1 };
 
-<<<<<<< HEAD
     ghost maker = { λ e. e.0 };
-=======
-    ghost maker = { λ e. e.by };
->>>>>>> fa9293d1db476faab92dbb36065565fd49aa6f32
 
     ghost fixed = { λ b. b.0 };
 

@@ -22,11 +22,7 @@ struct Claims {
 }
 
 impl Promise<Result<Pass<Board>, AllocError>> for Claims {
-<<<<<<< HEAD
     ghost kept_by = { λ p r. IfOk r (HasMade p.start.value.lock p.start.value.number ((p.start.value.number, p.cell) ∷ [])) };
-=======
-    ghost kept_by = { λ p r. IfOk r (HasMade p.start.value.lock p.start.value.number (record { by = p.start.value.number; cell = p.cell } ∷ [])) };
->>>>>>> fa9293d1db476faab92dbb36065565fd49aa6f32
 }
 
 fn claim<R: Wait>(
@@ -37,11 +33,7 @@ fn claim<R: Wait>(
     cell: u64,
 ) -> Result<Pass<Board>, AllocError>
     requires { HasMade lock.now me [] pass }
-<<<<<<< HEAD
     ensures { IfOk result (HasMade lock.now me ((me, cell) ∷ [])) }
-=======
-    ensures { IfOk result (HasMade lock.now me (record { by = me; cell = cell } ∷ [])) }
->>>>>>> fa9293d1db476faab92dbb36065565fd49aa6f32
 {
     let mut mine = pass;
     let mut board = lock.enter(rt, &mut mine);
@@ -71,11 +63,7 @@ fn begin<R: Threads + Wait + Copy + Send + 'static>(
         promise,
         move || -> Result<Pass<Board>, AllocError>
             requires { HasMade (arc_value lock) me [] pass }
-<<<<<<< HEAD
             ensures { IfOk result (HasMade (arc_value lock) me ((me, cell) ∷ [])) }
-=======
-            ensures { IfOk result (HasMade (arc_value lock) me (record { by = me; cell = cell } ∷ [])) }
->>>>>>> fa9293d1db476faab92dbb36065565fd49aa6f32
         { claim(&rt, &lock, pass, me, cell) },
     )?;
     Ok(child)
@@ -112,13 +100,8 @@ fn join_all(
     _cell: u64,
 ) -> Result<(), AllocError>
     requires fresh { HasMade lock.now 0 [] pass.old }
-<<<<<<< HEAD
     requires each { (k : ℕ) (d : _) → k < vec_len passes → IfOk (slice_index_or passes.items k d) (HasMade lock.now (k + 1) ((k + 1, _cell) ∷ [])) }
     ensures joined { IfOk result (λ _. pass.new ≡ record pass.old { seen = pass.new.seen; joined = numbered (vec_len passes) (λ k. (k, _cell) ∷ []) }) }
-=======
-    requires each { (k : ℕ) (d : _) → k < vec_len passes → IfOk (slice_index_or passes.items k d) (HasMade lock.now (k + 1) (record { by = k + 1; cell = _cell } ∷ [])) }
-    ensures joined { IfOk result (λ _. pass.new ≡ record pass.old { seen = pass.new.seen; joined = numbered (vec_len passes) (λ k. record { by = k; cell = _cell } ∷ []) }) }
->>>>>>> fa9293d1db476faab92dbb36065565fd49aa6f32
 {
     for p in passes {
         lock.join(pass, p?);
@@ -136,15 +119,9 @@ fn claimed_by_many<R: Threads + Wait + Copy + Send + 'static>(
 ) -> Result<Board, AllocError>
     requires empty { board.1 ≡ [] }
     ensures plan { IfOk result (λ b. b.0 ≡ board.0) }
-<<<<<<< HEAD
     ensures each { IfOk result (λ b. AllMade (λ (e : ℕ × ℕ). e.0) b.1 (numbered n (λ k. (k, cell) ∷ []))) }
     ensures main { IfOk result (λ b. entries_of (λ (e : ℕ × ℕ). e.0) 0 b.1 ≡ []) }
     ensures others { IfOk result (λ b. (k : ℕ) → n < k → entries_of (λ (e : ℕ × ℕ). e.0) k b.1 ≡ []) }
-=======
-    ensures each { IfOk result (λ b. AllMade (λ e. e.by) b.1 (numbered n (λ k. record { by = k; cell = cell } ∷ []))) }
-    ensures main { IfOk result (λ b. entries_of (λ e. e.by) 0 b.1 ≡ []) }
-    ensures others { IfOk result (λ b. (k : ℕ) → n < k → entries_of (λ e. e.by) k b.1 ≡ []) }
->>>>>>> fa9293d1db476faab92dbb36065565fd49aa6f32
 {
     let Ok((lock, mut pass)) = SeenLock::new(alloc, board) else {
         return Err(AllocError);

@@ -1,24 +1,12 @@
 // A value with an invariant of its own: amounts that were added, up to a limit.
-<<<<<<< HEAD
 ghost use Rattle.std.specs.Prelude.{◌≡◌, ◌∷◌, ◌++◌, ◌<◌, ◌^◌, ℕ, OnOk, OnErr, [], vec_len};
-=======
-ghost use Rattle.std.specs.Prelude.{◌≡◌, ◌∷◌, ◌++◌, ◌<◌, ◌^◌, OnOk, OnErr, [], vec_len};
->>>>>>> fa9293d1db476faab92dbb36065565fd49aa6f32
 ghost use Rattle.std.specs.List.{sum_by};
 
 use crate::Told;
 use std::alloc::{AllocError, Global};
 
-<<<<<<< HEAD
 // The number of the pass, and the amount.
 pub type Added = (u64, u64);
-=======
-#[derive(Clone, Copy)]
-pub struct Added {
-    pub by: u64,
-    pub amount: u64,
-}
->>>>>>> fa9293d1db476faab92dbb36065565fd49aa6f32
 
 #[derive(Drop)]
 pub struct Tally {
@@ -26,11 +14,7 @@ pub struct Tally {
     // It never changes.
     pub limit: u64,
     pub log: Vec<Added>,
-<<<<<<< HEAD
     ghost summed: { total ≡ sum_by (λ (e : ℕ × ℕ). e.1) log.items },
-=======
-    ghost summed: { total ≡ sum_by (λ e. e.amount) log.items },
->>>>>>> fa9293d1db476faab92dbb36065565fd49aa6f32
     ghost short: { vec_len log < 2 ^ 62 },
 }
 
@@ -48,11 +32,7 @@ impl Tally {
 
     // It stays as it was where there is no memory, or the total would pass the limit.
     pub fn add(&mut self, by: u64, amount: u64) -> Result<(), AllocError>
-<<<<<<< HEAD
         ensures ok { OnOk result (self.new.log.items ≡ self.old.log.items ++ (by, amount) ∷ []) }
-=======
-        ensures ok { OnOk result (self.new.log.items ≡ self.old.log.items ++ record { by = by; amount = amount } ∷ []) }
->>>>>>> fa9293d1db476faab92dbb36065565fd49aa6f32
         ensures err { OnErr result (self.new.log.items ≡ self.old.log.items) }
         ensures limit { self.new.limit ≡ self.old.limit }
     {
@@ -62,11 +42,7 @@ impl Tally {
         {
             return Err(AllocError);
         }
-<<<<<<< HEAD
         self.log.push((by, amount))?;
-=======
-        self.log.push(Added { by, amount })?;
->>>>>>> fa9293d1db476faab92dbb36065565fd49aa6f32
         self.total += amount;
         Ok(())
     }
@@ -79,11 +55,7 @@ impl Told for Tally {
 
     ghost history = { λ t. t.log.items };
 
-<<<<<<< HEAD
     ghost maker = { λ e. e.0 };
-=======
-    ghost maker = { λ e. e.by };
->>>>>>> fa9293d1db476faab92dbb36065565fd49aa6f32
 
     ghost fixed = { λ t. t.limit };
 

@@ -1,8 +1,4 @@
-<<<<<<< HEAD
 // Threads that take turns, and sleep in between. A wake that is lost would leave one asleep for ever.
-=======
-// Threads that take turns, and sleep in between. A wake that is lost would leave one asleep.
->>>>>>> fa9293d1db476faab92dbb36065565fd49aa6f32
 ghost use Rattle.std.specs.Prelude.{◌≡◌, ◌∷◌, ◌++◌, ◌⊎◌, [], false};
 
 use crate::tests::relay::Relay;
@@ -45,28 +41,19 @@ fn take_turns<R: Wait>(
         let mut relay = lock.enter(rt, &mut pass);
         let is_turn = relay.turn == me;
         let done = try_visit(&mut relay, me, next, is_turn);
-<<<<<<< HEAD
         let is_others_turn = relay.turn != me;
-=======
->>>>>>> fa9293d1db476faab92dbb36065565fd49aa6f32
         lock.leave(&mut pass, relay);
         if done {
             left -= 1;
         }
-<<<<<<< HEAD
         // In its own turn it goes on at once: nothing new would end the sleep.
         if left > 0 && is_others_turn {
-=======
-        // Where memory ran out in its turn it tries again: nothing new would end the sleep.
-        if left > 0 && (done || !is_turn) {
->>>>>>> fa9293d1db476faab92dbb36065565fd49aa6f32
             lock.wait(rt, &mut pass);
         }
     }
     pass
 }
 
-<<<<<<< HEAD
 // Two threads visit so many times each. The first hands its turn to the second, and the second to `next`. A third pass is dropped.
 fn relay_of_two<R: Threads + Wait + Sync>(
     rt: &R,
@@ -75,96 +62,38 @@ fn relay_of_two<R: Threads + Wait + Sync>(
     second: u64,
     next: u64,
 ) -> Option<Relay> {
-=======
-// Enters once and leaves the value as it is, and then its pass is dropped.
-fn look_once<R: Wait>(rt: &R, lock: &SeenLock<Relay>, pass: Pass<Relay>)
-    requires lock { pass.lock ≡ lock.now }
-    requires outside { pass.inside ≡ false }
-{
-    let mut mine = pass;
-    let relay = lock.enter(rt, &mut mine);
-    lock.leave(&mut mine, relay);
-}
-
-// Two threads take turns, beside a third whose pass ends before theirs.
-fn relay_of_two<R: Threads + Wait + Sync>(rt: &R, alloc: Global, rounds: u64) -> Option<Relay> {
->>>>>>> fa9293d1db476faab92dbb36065565fd49aa6f32
     let Ok((lock, mut pass)) = SeenLock::new(alloc, Relay::new(alloc)) else {
         return None;
     };
     let one = lock.split(&mut pass);
     let two = lock.split(&mut pass);
-<<<<<<< HEAD
     drop(lock.split(&mut pass));
-=======
-    let third = lock.split(&mut pass);
->>>>>>> fa9293d1db476faab92dbb36065565fd49aa6f32
     let shared = &lock;
     let (one, two) = thread::join(
         rt,
         || -> Pass<Relay>
             requires { (one.lock ≡ shared.now) × (one.inside ≡ false) × (one.number ≡ 1) }
             ensures { (result.lock ≡ shared.entry.now) × (result.inside ≡ false) × (result.number ≡ 1) }
-<<<<<<< HEAD
         { take_turns(rt, shared, one, 1, 2, first) },
         || -> Pass<Relay>
             requires { (two.lock ≡ shared.now) × (two.inside ≡ false) × (two.number ≡ 2) }
             ensures { (result.lock ≡ shared.entry.now) × (result.inside ≡ false) × (result.number ≡ 2) }
         { take_turns(rt, shared, two, 2, next, second) },
-=======
-        { take_turns(rt, shared, one, 1, 2, rounds) },
-        || -> Pass<Relay>
-            requires { (two.lock ≡ shared.now) × (two.inside ≡ false) × (two.number ≡ 2) × (third.lock ≡ shared.now) × (third.inside ≡ false) }
-            ensures { (result.lock ≡ shared.entry.now) × (result.inside ≡ false) × (result.number ≡ 2) }
-        { beside_another(rt, shared, two, third, rounds) },
->>>>>>> fa9293d1db476faab92dbb36065565fd49aa6f32
     );
     lock.join(&mut pass, one);
     lock.join(&mut pass, two);
     Some(lock.enter(rt, &mut pass))
 }
 
-<<<<<<< HEAD
 #[test]
 fn two_threads_take_turns(rt: HostRuntime) -> Result<(), Fail> {
     let relay = relay_of_two(&rt, rt.alloc(), 10_000, 10_000, 1).ok_or("memory")?;
-=======
-// Takes the second turn, while another thread looks once.
-fn beside_another<R: Threads + Wait + Sync>(
-    rt: &R,
-    lock: &SeenLock<Relay>,
-    two: Pass<Relay>,
-    third: Pass<Relay>,
-    rounds: u64,
-) -> Pass<Relay>
-    requires two { (two.lock ≡ lock.now) × (two.inside ≡ false) × (two.number ≡ 2) }
-    requires third { (third.lock ≡ lock.now) × (third.inside ≡ false) }
-    ensures { (result.lock ≡ lock.now) × (result.inside ≡ false) × (result.number ≡ 2) }
-{
-    let (_, pass) = thread::join(
-        rt,
-        || -> ()
-            requires { (third.lock ≡ lock.now) × (third.inside ≡ false) }
-        { look_once(rt, lock, third) },
-        || -> Pass<Relay>
-            requires { (two.lock ≡ lock.now) × (two.inside ≡ false) × (two.number ≡ 2) }
-            ensures { (result.lock ≡ lock.entry.now) × (result.inside ≡ false) × (result.number ≡ 2) }
-        { take_turns(rt, lock, two, 2, 1, rounds) },
-    );
-    pass
-}
-
-#[test]
-fn two_threads_take_turns(rt: HostRuntime) -> Result<(), Fail> {
-    let relay = relay_of_two(&rt, rt.alloc(), 10_000).ok_or("memory")?;
->>>>>>> fa9293d1db476faab92dbb36065565fd49aa6f32
     assert_eq!(rt; relay.visits.len(), 20_000);
     for (i, visitor) in relay.visits.iter().enumerate() {
         assert_eq!(rt; *visitor, i as u64 % 2 + 1, "visit {i}");
     }
     Ok(())
 }
-<<<<<<< HEAD
 
 #[test]
 fn a_pass_ends_before_the_other(rt: HostRuntime) -> Result<(), Fail> {
@@ -175,5 +104,3 @@ fn a_pass_ends_before_the_other(rt: HostRuntime) -> Result<(), Fail> {
     }
     Ok(())
 }
-=======
->>>>>>> fa9293d1db476faab92dbb36065565fd49aa6f32

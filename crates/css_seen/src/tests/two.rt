@@ -1,10 +1,6 @@
 // Two threads add to one tally.
 ghost use Rattle.std.specs.Prelude.{◌≡◌, ◌∷◌, ℕ, ◌<◌, [], IfOk};
-<<<<<<< HEAD
 ghost use Rattle.css_seen.specs.Entries.{entries_of, AllMade};
-=======
-ghost use Rattle.css_seen.specs.Entries.{entries_of};
->>>>>>> fa9293d1db476faab92dbb36065565fd49aa6f32
 ghost use Rattle.css_seen.specs.Accounts.{HasMade};
 
 use crate::tests::tally::Tally;
@@ -25,11 +21,7 @@ fn add<R: Wait>(
     amount: u64,
 ) -> Result<Pass<Tally>, AllocError>
     requires { HasMade lock.now me [] pass }
-<<<<<<< HEAD
     ensures { IfOk result (HasMade lock.now me ((me, amount) ∷ [])) }
-=======
-    ensures { IfOk result (HasMade lock.now me (record { by = me; amount = amount } ∷ [])) }
->>>>>>> fa9293d1db476faab92dbb36065565fd49aa6f32
 {
     let mut mine = pass;
     let mut tally = lock.enter(rt, &mut mine);
@@ -48,16 +40,9 @@ fn added_by_two<R: Threads + Wait + Sync>(
     second: u64,
 ) -> Result<Tally, AllocError>
     ensures limit { IfOk result (λ t. t.limit ≡ limit) }
-<<<<<<< HEAD
     ensures each { IfOk result (λ t. AllMade (λ (e : ℕ × ℕ). e.0) t.log.items ((1, (1, first) ∷ []) ∷ (2, (2, second) ∷ []) ∷ [])) }
     ensures main { IfOk result (λ t. entries_of (λ (e : ℕ × ℕ). e.0) 0 t.log.items ≡ []) }
     ensures others { IfOk result (λ t. (n : ℕ) → 2 < n → entries_of (λ (e : ℕ × ℕ). e.0) n t.log.items ≡ []) }
-=======
-    ensures first { IfOk result (λ t. entries_of (λ e. e.by) 1 t.log.items ≡ record { by = 1; amount = first } ∷ []) }
-    ensures second { IfOk result (λ t. entries_of (λ e. e.by) 2 t.log.items ≡ record { by = 2; amount = second } ∷ []) }
-    ensures main { IfOk result (λ t. entries_of (λ e. e.by) 0 t.log.items ≡ []) }
-    ensures others { IfOk result (λ t. (n : ℕ) → 2 < n → entries_of (λ e. e.by) n t.log.items ≡ []) }
->>>>>>> fa9293d1db476faab92dbb36065565fd49aa6f32
 {
     let Ok((lock, mut pass)) = SeenLock::new(alloc, Tally::new(alloc, limit)) else {
         return Err(AllocError);
@@ -69,19 +54,11 @@ fn added_by_two<R: Threads + Wait + Sync>(
         rt,
         || -> Result<Pass<Tally>, AllocError>
             requires { HasMade shared.now 1 [] one }
-<<<<<<< HEAD
             ensures { IfOk result (HasMade shared.entry.now 1 ((1, first) ∷ [])) }
         { add(rt, shared, one, 1, first) },
         || -> Result<Pass<Tally>, AllocError>
             requires { HasMade shared.now 2 [] two }
             ensures { IfOk result (HasMade shared.entry.now 2 ((2, second) ∷ [])) }
-=======
-            ensures { IfOk result (HasMade shared.entry.now 1 (record { by = 1; amount = first } ∷ [])) }
-        { add(rt, shared, one, 1, first) },
-        || -> Result<Pass<Tally>, AllocError>
-            requires { HasMade shared.now 2 [] two }
-            ensures { IfOk result (HasMade shared.entry.now 2 (record { by = 2; amount = second } ∷ [])) }
->>>>>>> fa9293d1db476faab92dbb36065565fd49aa6f32
         { add(rt, shared, two, 2, second) },
     );
     let one = one?;
@@ -95,11 +72,7 @@ fn added_by_two<R: Threads + Wait + Sync>(
 fn two_threads_add(rt: HostRuntime) -> Result<(), Fail> {
     let tally = added_by_two(&rt, rt.alloc(), 10, 3, 4)?;
     assert_eq!(rt; (tally.total, tally.limit, tally.log.len()), (7, 10, 2));
-<<<<<<< HEAD
     assert!(rt; tally.log[0].0 != tally.log[1].0);
-=======
-    assert_eq!(rt; tally.log[0].by + tally.log[1].by, 3);
->>>>>>> fa9293d1db476faab92dbb36065565fd49aa6f32
     let Err(_) = added_by_two(&rt, rt.alloc(), 6, 3, 4) else {
         panic!(rt; "over the limit")
     };

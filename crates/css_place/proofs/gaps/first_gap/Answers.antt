@@ -1,8 +1,4 @@
-<<<<<<< HEAD
 use Rattle.std.proofs.Common.{◌<◌, ◌≡◌, length, get_or, refl, arith}
-=======
-use Rattle.std.proofs.Common.{◌<◌, ◌≤◌, ◌+◌, ◌≡◌, length, get_or, refl, arith}
->>>>>>> fa9293d1db476faab92dbb36065565fd49aa6f32
 use Rattle.css_place.specs.declared.stretch.Stretch.{Stretch}
 use Rattle.css_place.specs.declared.gaps.Gap.{Gap}
 use Rattle.css_place.proofs.Passing.{passed_more, gap_ends, fits_before, fits_last, read}

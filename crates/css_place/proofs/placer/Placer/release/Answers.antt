@@ -1,7 +1,3 @@
-<<<<<<< HEAD
-=======
-use Rattle.std.proofs.Common.{◌≡◌, ◌<◌, length, ◌∙◌, ap, Some, get_or}
->>>>>>> fa9293d1db476faab92dbb36065565fd49aa6f32
 use Rattle.std.proofs.lemmas.Option.{slice_get_within, get_or_from_slice_get}
 use Rattle.css_place.specs.Places.{Store}
 use Rattle.css_place.proofs.Placing.{placed_less, remove_removes}
