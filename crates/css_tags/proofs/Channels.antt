@@ -1,5 +1,5 @@
 -- A channel after one more entry: its slots, its queue and its room.
-use Rattle.std.proofs.Common.{◌≡◌, ◌≢◌, ◌+◌, ◌*◌, ◌<◌, ◌≤◌, ◌^◌, ◌⊎◌, ℕ, zero, suc, Option, Some, None, List, [], ◌∷◌, ◌++◌, length, drop, set, get_or, remove, arith, refl, sym, ap, ◌∙◌, subst, inl, inr, eqb, true, false, not, Bool, IsTrue, Result, Ok, Err, is_err, OnOk, IfSome, IfNone, replicate, All, AllPairs, Contains, length-append, lit<}
+use Rattle.std.proofs.Common.{◌≡◌, ◌≢◌, ◌+◌, ◌*◌, ◌<◌, ◌≤◌, ◌^◌, ℕ, zero, suc, Option, Some, None, List, [], ◌∷◌, ◌++◌, length, drop, set, get_or, arith, refl, sym, ap, ◌∙◌, subst, inl, inr, eqb, true, false, not, Bool, IsTrue, Result, Ok, Err, is_err, OnOk, IfSome, IfNone, replicate, All, AllPairs, Contains, length-append}
 use Rattle.std.specs.List.{sum_by}
 use Rattle.std.proofs.lemmas.Bool.{cases_eq, ne_eqb}
 use Rattle.std.proofs.lemmas.List.{append_assoc, get_or-set_same, get_or-set_other, length-set, length-replicate, get_or-replicate}
@@ -14,7 +14,7 @@ use Rattle.css_tags.specs.Groups.{Underway, left, plan_of}
 use Rattle.css_tags.specs.Legal.{entries_on}
 use Rattle.css_tags.specs.States.{last_on, IsFree, IsIssued, IsBefore, IsIssuedFirst, IsLeastFree}
 use Rattle.css_tags.specs.Slots.{IsFreeSlot, IsSlot, IsQueue, IsChannel, to_come, waiting}
-use Rattle.css_tags.proofs.Tags.{on_own, on_other, entries_other, last_own, last_other, state_number, issued_number, slot_number, slot_state, slot_other, slot_issued, slot_out, slot_finished, slot_collected, issued_last, free_slot, taken_low, issued_taken, out_taken, out_slot, free_from_slot, slot_from_free}
+use Rattle.css_tags.proofs.Tags.{on_own, on_other, entries_other, last_own, last_other, issued_number, slot_number, slot_state, slot_other, slot_issued, slot_out, slot_finished, slot_collected, issued_last, taken_low, issued_taken, out_taken, out_slot, free_from_slot, slot_from_free}
 
 -- the slots after one is replaced
 each_after : (h : List Entry) (all : List Slot) (tag : ℕ) (e : Entry) (slot : Slot) → length all ≡ 32 → tag < 32

@@ -1,8 +1,8 @@
 -- Groups: their items' pieces, one after another.
-use Rattle.std.proofs.Common.{◌≡◌, ◌+◌, ◌-◌, ◌<◌, ◌≤◌, ℕ, suc, Bool, true, false, cond, List, [], ◌∷◌, ◌++◌, length, map, take, drop, set, get_or, arith, refl, sym, ap, ◌∙◌, subst, All, Some, slice_get, slice_range, slice_set, length-append, replicate, Vec, Global}
+use Rattle.std.proofs.Common.{◌≡◌, ◌+◌, ◌-◌, ◌<◌, ◌≤◌, ℕ, suc, Bool, true, false, cond, List, [], ◌∷◌, ◌++◌, length, map, take, drop, set, get_or, arith, refl, sym, ap, ◌∙◌, subst, All, Some, slice_get, slice_range, replicate, Vec, Global}
 use Rattle.std.specs.List.{flat_map, sum_by, zip}
-use Rattle.std.proofs.lemmas.List.{append_assoc, map-set, set-get_or, set_split, get_or-map, length-set, take-append-drop, length-map, take-set}
-use Rattle.std.proofs.lemmas.List.Elements.{All-nil, All-cons, All-head, All-tail, All-set, All-get_or, All-map, All-from_get_or}
+use Rattle.std.proofs.lemmas.List.{map-set, set-get_or, set_split, get_or-map, length-set, take-append-drop, take-set}
+use Rattle.std.proofs.lemmas.List.Elements.{All-nil, All-cons, All-head, All-tail, All-set, All-get_or}
 use Rattle.std.proofs.lemmas.List.Concat.{flat_map-append}
 use Rattle.std.proofs.lemmas.List.Sums.{sum_by-cons}
 use Rattle.std.proofs.lemmas.Option.{slice_get_within, get_or_from_slice_get}
@@ -11,7 +11,7 @@ use Rattle.css_tags.proofs.Pieces.{sum_pieces}
 use Rattle.css_tags.specs.declared.piece.Piece.{Piece}
 use Rattle.css_tags.specs.declared.item.Item.{Item}
 use Rattle.css_tags.specs.Blocks.{Contents}
-use Rattle.css_tags.specs.Plans.{Planned, bytes_in, bytes_of}
+use Rattle.css_tags.specs.Plans.{Planned, bytes_of}
 use Rattle.css_tags.specs.Groups.{Moving, Underway, IsMoving, IsGroup, IsPutItem, StepsAt, MovesNext, begun_get, begun_put, planned_get, planned_put, left, left_of, with_moved, block_of, blocks_of, block_after, copy_of, plan_of}
 
 abbrev head_or : List ℕ → List (List ℕ) → List ℕ

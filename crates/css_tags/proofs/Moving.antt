@@ -1,10 +1,10 @@
 -- How far an item is moved.
-use Rattle.std.proofs.Common.{◌≡◌, ◌+◌, ◌-◌, ◌*◌, ◌<◌, ◌≤◌, ℕ, zero, suc, Bool, true, false, List, [], ◌∷◌, ◌++◌, map, length, take, drop, min, replicate, arith, refl, sym, ap, ◌∙◌, subst, inl, inr, Some, None, Option, get_or, add-one, slice_get, length-append, length-drop}
+use Rattle.std.proofs.Common.{◌≡◌, ◌+◌, ◌-◌, ◌<◌, ◌≤◌, ℕ, suc, Bool, List, [], ◌∷◌, ◌++◌, length, take, drop, arith, refl, sym, ap, ◌∙◌, inl, inr, Some, None, slice_get, length-append, length-drop}
 use Rattle.std.specs.List.{sum_by}
-use Rattle.std.proofs.lemmas.List.{take_all, length-take-le, length-take, take-append-le, append_assoc, nil_from_length, drop_all, take-append-drop, length-replicate}
+use Rattle.std.proofs.lemmas.List.{take_all, length-take-le, append_assoc, take-append-drop}
 use Rattle.std.proofs.lemmas.List.FromFn.{get_or-map-range_with_len}
 use Rattle.std.proofs.lemmas.Option.{slice_get-get_or, slice_get_cases}
-use Rattle.std.proofs.Math.Seq.{take-add, drop-cons, take-append_seam, drop-length}
+use Rattle.std.proofs.Math.Seq.{take-add, drop-cons, take-append_seam}
 use Rattle.css_tags.specs.declared.piece.Piece.{Piece}
 use Rattle.css_tags.specs.Pieces.{piece, pieces, count_of_pieces, copied}
 use Rattle.css_tags.specs.Plans.{Planned}

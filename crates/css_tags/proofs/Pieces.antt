@@ -1,10 +1,10 @@
 -- The pieces of a block: each begins where the one before it ends, and the last ends where the block does.
-use Rattle.std.proofs.Common.{◌≡◌, ◌+◌, ◌-◌, ◌*◌, ◌/◌, ◌%◌, ◌<◌, ◌≤◌, ℕ, zero, suc, List, [], ◌∷◌, map, length, min, take, drop, arith, refl, sym, ap, ◌∙◌, subst, inl, inr, Some, lit<, get_or, add-one}
+use Rattle.std.proofs.Common.{◌≡◌, ◌+◌, ◌-◌, ◌*◌, ◌/◌, ◌%◌, ◌<◌, ◌≤◌, ℕ, zero, suc, map, length, min, take, arith, refl, sym, ap, ◌∙◌, subst, inl, inr, lit<, add-one}
 use Rattle.std.specs.List.{sum_by, range_with_len}
 use Rattle.std.proofs.lemmas.Bool.{cases_lt}
 use Rattle.std.proofs.lemmas.Grind.{div_ceil_times}
 use Rattle.std.proofs.lemmas.Nat.{div-mul-add, mod-mul-add, div-add-mod', mod_below}
-use Rattle.std.proofs.lemmas.List.FromFn.{sum_by-map-range_with_len_more, take-map-range_with_len, length-map-range_with_len, get_or-map-range_with_len}
+use Rattle.std.proofs.lemmas.List.FromFn.{sum_by-map-range_with_len_more, take-map-range_with_len, length-map-range_with_len}
 use Rattle.std.proofs.lemmas.List.Sums.{sum_by-take-le}
 use Rattle.css_tags.specs.declared.piece.Piece.{Piece}
 use Rattle.css_tags.specs.Pieces.{piece, pieces, pieces_of_row, count_of_pieces}
@@ -112,3 +112,25 @@ piece_is width n k same = rw same refl
 pub count_is : (bytes width k : ℕ) → k ≡ pieces_of_row width → bytes / width * k ≡ count_of_pieces bytes width
 unfolding count_of_pieces
 count_is bytes width k same = ap (λ m. bytes / width * m) same
+
+at_most : (m : ℕ) → min 16384 m ≤ 16384
+at_most m = omega arith
+
+pub piece_small : (width n : ℕ) → (piece width n).length ≤ 16384
+unfolding piece
+piece_small width n = at_most (width - n % pieces_of_row width * 16384)
+
+in_row : (width k n : ℕ) → 1 ≤ width → width ≤ k * 16384 → k * 16384 < width + 16384
+    → begins width k n % width + min 16384 (width - n % k * 16384) ≤ width
+in_row width k n least enough few =
+    let positive : 0 < k = omega arith in
+    let below : n % k < k = mod_below n k positive in
+    let short : n % k * 16384 < width = omega arith in
+    rw (mod-mul-add (n / k) width (n % k * 16384) short) (omega arith)
+
+-- a piece's bytes stand in one row
+pub piece_in_row : (width n : ℕ) → 1 ≤ width → (piece width n).start % width + (piece width n).length ≤ width
+unfolding piece
+piece_in_row width n least =
+    let bounds = div_ceil_times width 16384 (lit< tt) in
+    in_row width (pieces_of_row width) n least bounds.0 bounds.1

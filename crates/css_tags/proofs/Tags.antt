@@ -1,11 +1,11 @@
 -- The state of each tag, by its entries.
-use Rattle.std.proofs.Common.{◌≡◌, ◌≢◌, ◌+◌, ◌<◌, ◌≤◌, ◌⊎◌, ℕ, zero, suc, Bool, true, false, cond, eqb, Option, Some, None, List, [], ◌∷◌, ◌++◌, length, map, take, drop, set, get_or, arith, refl, sym, ap, ◌∙◌, subst, inl, inr, All, length-append}
-use Rattle.std.specs.List.{filter, flat_map, last_or}
+use Rattle.std.proofs.Common.{◌≡◌, ◌≢◌, ◌<◌, ◌≤◌, ◌⊎◌, ℕ, cond, eqb, Option, Some, None, List, [], ◌∷◌, ◌++◌, arith, refl, sym, ap, ◌∙◌, inl, inr, All}
+use Rattle.std.specs.List.{flat_map, last_or}
 use Rattle.std.proofs.lemmas.Bool.{eq-eqb, ne_eqb}
-use Rattle.std.proofs.lemmas.List.{append_assoc, append-nil, get_or-set_same, get_or-set_other}
+use Rattle.std.proofs.lemmas.List.{append_assoc, append-nil}
 use Rattle.std.proofs.lemmas.List.Elements.{filter-append, All-head, All-tail}
 use Rattle.std.proofs.lemmas.List.Concat.{flat_map-append}
-use Rattle.std.proofs.lemmas.Bool.{cases_eq, cases_lt}
+use Rattle.std.proofs.lemmas.Bool.{cases_lt}
 use mathlib.Core.List.{IsPrefix}
 use Rattle.css_tags.specs.declared.entry.Step.{Step}
 use Rattle.css_tags.specs.declared.entry.Step.TheVariants.{Issue, Out, Finished, Collected}
@@ -15,8 +15,8 @@ use Rattle.css_tags.specs.Plans.{Plan}
 use Rattle.css_tags.specs.Groups.{Underway, left, plan_of}
 use Rattle.css_tags.specs.Entries.{Entry, issue, out, finish, collect}
 use Rattle.css_tags.specs.Legal.{round, entries_on, ChannelLegal}
-use Rattle.css_tags.specs.States.{last_on, IsFree, IsIssued, IsOut, IsFinished, IsBefore}
-use Rattle.css_tags.specs.Slots.{IsFreeSlot, IsFinishedSlot, IsBegun, IsSlot}
+use Rattle.css_tags.specs.States.{last_on, IsFree, IsIssued, IsOut, IsFinished}
+use Rattle.css_tags.specs.Slots.{IsFreeSlot, IsFinishedSlot, IsSlot}
 
 -- ---- one more entry
 

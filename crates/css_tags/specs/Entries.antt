@@ -1,5 +1,5 @@
 -- The entries of a channel's history.
-use Rattle.std.specs.Prelude.{ℕ, List, [], ◌∷◌}
+use Rattle.std.specs.Prelude.{ℕ}
 use Rattle.css_base.specs.declared.channel.ChannelLine.{ChannelLine}
 use Rattle.css_base.specs.declared.channel.ChannelLine.TheVariants as lines
 use Rattle.css_tags.specs.declared.entry.Step.{Step}

@@ -4,7 +4,7 @@ use Rattle.std.specs.List.{flat_map, sum_by}
 use Rattle.css_tags.specs.declared.piece.Piece.{Piece}
 use Rattle.css_tags.specs.declared.item.Item.{Item}
 use Rattle.css_tags.specs.declared.item.Item.TheVariants.{From, Fresh, Kept}
-use Rattle.css_tags.specs.Pieces.{piece, pieces, copied}
+use Rattle.css_tags.specs.Pieces.{pieces, copied}
 use Rattle.css_tags.specs.Plans.{Planned, Plan}
 use Rattle.css_tags.specs.Blocks.{Contents}
 

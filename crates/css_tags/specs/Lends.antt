@@ -1,5 +1,5 @@
 -- What a block, and the blocks of a put or get group, end as once their bytes were lent to a writer.
-use Rattle.std.specs.Prelude.{ℕ, List, length, slice_set, slice_index_or}
+use Rattle.std.specs.Prelude.{ℕ, List, length}
 use Rattle.std.specs.List.{refill}
 use Rattle.std.specs.Borrow.{Lends, MutBor, Fml, Array, u8}
 use Rattle.css_tags.specs.Blocks.{Contents}

@@ -1,11 +1,11 @@
 -- How a channel's slots and its queue tell the states of the tags, so that no call walks the history.
-use Rattle.std.specs.Prelude.{◌≡◌, ◌≢◌, ◌+◌, ◌<◌, ◌≤◌, ◌^◌, ℕ, List, [], ◌∷◌, ◌++◌, length, All, AllPairs, Contains, slice_index_or}
+use Rattle.std.specs.Prelude.{◌≡◌, ◌+◌, ◌<◌, ◌≤◌, ◌^◌, ℕ, List, [], ◌∷◌, ◌++◌, length, All, AllPairs, Contains, slice_index_or}
 use Rattle.std.specs.List.{flat_map, sum_by}
 use Rattle.css_tags.specs.declared.slot.Slot.{Slot}
 use Rattle.css_tags.specs.declared.slot.Slot.TheVariants.{Free, Issued, Out, Finished}
 use Rattle.css_tags.specs.Plans.{Plan}
 use Rattle.css_tags.specs.Groups.{left, plan_of}
-use Rattle.css_tags.specs.Entries.{Entry, issue, out, finish, collect}
+use Rattle.css_tags.specs.Entries.{Entry, issue, out, finish}
 use Rattle.css_tags.specs.Legal.{round, entries_on}
 use Rattle.css_tags.specs.States.{IsIssued, IsBefore}
 

@@ -1,5 +1,5 @@
 -- The state of a tag, which its last entry tells, and the order in which groups were issued.
-use Rattle.std.specs.Prelude.{◌≡◌, ◌≢◌, ◌<◌, ◌⊎◌, ℕ, Option, Some, None, List, [], ◌∷◌, ◌++◌, length}
+use Rattle.std.specs.Prelude.{◌≡◌, ◌≢◌, ◌<◌, ◌⊎◌, ℕ, Option, Some, None, List, [], ◌++◌, length}
 use Rattle.std.specs.List.{last_or}
 use Rattle.css_tags.specs.Plans.{Plan}
 use Rattle.css_tags.specs.Entries.{Entry, issue, out, finish, collect}

@@ -7,6 +7,7 @@ mod copies;
 mod entry;
 mod group;
 mod item;
+pub mod laws;
 mod piece;
 mod slot;
 mod staged;

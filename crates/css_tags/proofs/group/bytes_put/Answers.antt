@@ -1,4 +1,4 @@
-use Rattle.std.proofs.Common.{◌≡◌, ◌+◌, ◌∙◌, ap, sym, get_or, length, arith}
+use Rattle.std.proofs.Common.{◌≡◌, ap, get_or, length, arith}
 use Rattle.std.proofs.lemmas.List.Sums.{sum_by_more}
 use Rattle.std.proofs.lemmas.List.Elements.{All-get_or}
 use Rattle.css_tags.specs.Plans.{bytes_of}

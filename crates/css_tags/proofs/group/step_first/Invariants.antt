@@ -1,4 +1,4 @@
-use Rattle.std.proofs.Common.{◌≡◌, ◌≤◌, [], slice_range, All}
+use Rattle.std.proofs.Common.{◌≡◌, [], slice_range}
 use Rattle.std.specs.List.{flat_map}
 use Rattle.css_tags.specs.Groups.{left_of}
 use Rattle.css_tags.proofs.group.step_first.Given as goal

@@ -1,11 +1,11 @@
-use Rattle.std.proofs.Common.{◌≡◌, ◌<◌, ◌≤◌, get_or, length, ap, sym, refl, ◌∙◌, subst, vec_len, vec_capacity, arith, rules}
+use Rattle.std.proofs.Common.{◌≡◌, get_or, sym, refl, ◌∙◌, subst, vec_capacity, arith}
 use Rattle.css_tags.specs.declared.slot.Slot.{Slot}
 use Rattle.css_tags.specs.declared.slot.Slot.TheVariants.{Free, Finished}
 use Rattle.css_tags.specs.Groups.{plan_of}
 use Rattle.css_tags.specs.Slots.{IsSlot}
 use Rattle.css_tags.specs.States.{IsFree}
 use Rattle.css_tags.proofs.Tags.{taken_low, not_yet, finished_last, finished_only}
-use Rattle.css_tags.proofs.Channels.{channel_collected, finished_moved}
+use Rattle.css_tags.proofs.Channels.{channel_collected}
 use Rattle.css_tags.proofs.channel.Channel.collect.Goals as goal
 
 pub is_finished-requires : goal.is_finished-requires

@@ -1,8 +1,7 @@
-use Rattle.std.proofs.Common.{◌≡◌, ◌<◌, ◌≤◌, get_or, length, Some, ap, sym, ◌∙◌, subst, vec_len, vec_capacity, arith}
+use Rattle.std.proofs.Common.{◌≡◌, Some, vec_capacity, arith}
 use Rattle.css_tags.specs.Entries.{out}
 use Rattle.css_tags.specs.Groups.{plan_of}
 use Rattle.css_tags.specs.States.{last_on}
-use Rattle.css_tags.specs.declared.slot.Slot.TheVariants.{Free, Out}
 use Rattle.css_tags.proofs.Channels.{channel_finished, out_facts, room_left}
 use Rattle.css_tags.proofs.channel.Channel.finish.Goals as goal
 

@@ -1,7 +1,6 @@
-use Rattle.std.proofs.Common.{◌≡◌, ◌+◌, ◌≤◌, ◌<◌, ◌^◌, ◌++◌, [], ◌∷◌, get_or, length, ap, sym, refl, ◌∙◌, subst, vec_len, vec_capacity, arith, lit<}
+use Rattle.std.proofs.Common.{◌+◌, ◌≤◌, ◌<◌, ◌^◌, get_or, length, sym, refl, ◌∙◌, vec_capacity, arith, lit<}
 use Rattle.css_tags.specs.declared.slot.Slot.{Slot}
 use Rattle.css_tags.specs.declared.slot.Slot.TheVariants.{Free}
-use Rattle.css_tags.specs.Slots.{IsFreeSlot}
 use Rattle.css_tags.proofs.Tags.{free_from_slot, slot_from_free}
 use Rattle.css_tags.proofs.Channels.{channel_issued, room_in_queue, reserved}
 use Rattle.css_tags.proofs.channel.Channel.issue.Goals as goal

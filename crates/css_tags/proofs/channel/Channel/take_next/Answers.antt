@@ -1,9 +1,8 @@
-use Rattle.std.proofs.Common.{◌≡◌, ◌<◌, ◌≤◌, List, ℕ, ◌∷◌, drop, get_or, length, ap, sym, ◌∙◌, subst, vec_len, vec_capacity, arith}
-use Rattle.css_tags.specs.declared.slot.Slot.{Slot}
+use Rattle.std.proofs.Common.{◌≡◌, List, ℕ, drop, get_or, sym, ◌∙◌, subst, vec_capacity, arith}
 use Rattle.css_tags.specs.declared.slot.Slot.TheVariants.{Free, Issued}
 use Rattle.css_tags.specs.Slots.{IsChannel}
-use Rattle.css_tags.proofs.Tags.{issued_slot, issued_last}
-use Rattle.css_tags.proofs.Channels.{channel_taken, head_facts, none_issued, some_waits, first_issued, room_left}
+use Rattle.css_tags.proofs.Tags.{issued_slot}
+use Rattle.css_tags.proofs.Channels.{channel_taken, head_facts, none_issued, some_waits, first_issued}
 use Rattle.css_tags.proofs.channel.Channel.take_next.Goals as goal
 
 pub returns-then-is_empty-clause-none : goal.returns-then-is_empty-clause-none

@@ -1,4 +1,4 @@
-use Rattle.std.proofs.Common.{◌≡◌, ◌≤◌, List, ap, sym, ◌∙◌, map, length, subst, vec_len, vec_capacity, All, false, arith}
+use Rattle.std.proofs.Common.{◌≡◌, List, ap, sym, ◌∙◌, map, length, subst, vec_len, All, false}
 use Rattle.std.specs.List.{sum_by}
 use Rattle.std.proofs.lemmas.Iterator.Consumers.{YieldsList-end}
 use Rattle.std.proofs.lemmas.Iterator.Adapters.{YieldsList-from_vec}

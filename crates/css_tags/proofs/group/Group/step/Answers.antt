@@ -1,8 +1,8 @@
-use Rattle.std.proofs.Common.{◌≡◌, ap, sym, ◌∙◌, length, List, ℕ, subst, vec_len, vec_capacity, IsTrue, map}
-use Rattle.std.proofs.lemmas.List.{with_items_is, length-map}
+use Rattle.std.proofs.Common.{◌≡◌, ap, sym, ◌∙◌, length, List, subst, vec_len, vec_capacity}
+use Rattle.std.proofs.lemmas.List.{with_items_is}
 use Rattle.css_tags.specs.declared.piece.Piece.{Piece}
-use Rattle.css_tags.specs.Plans.{Planned, bytes_in, bytes_of}
-use Rattle.css_tags.specs.Groups.{Moving, Underway, StepsAt, IsGroup, HasRoom, MovesNext, plan_of}
+use Rattle.css_tags.specs.Plans.{bytes_in}
+use Rattle.css_tags.specs.Groups.{Moving, StepsAt, IsGroup, HasRoom, MovesNext, plan_of}
 use Rattle.css_tags.proofs.Groups.{stepped_group, same_plan, moves_next, nothing_left}
 use Rattle.css_tags.proofs.group.Group.step.Goals as goal
 

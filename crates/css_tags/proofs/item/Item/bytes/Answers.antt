@@ -1,4 +1,4 @@
-use Rattle.std.proofs.Common.{◌≡◌, sym, ◌∙◌, ap, length}
+use Rattle.std.proofs.Common.{◌≡◌, sym, ◌∙◌, length}
 use Rattle.css_tags.specs.Groups.{IsWidth}
 use Rattle.css_tags.proofs.Pieces.{sum_pieces}
 use Rattle.css_tags.proofs.item.Item.bytes.Goals as goal

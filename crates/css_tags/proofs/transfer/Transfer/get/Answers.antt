@@ -1,5 +1,5 @@
 use Rattle.std.proofs.Common.{◌≡◌, length, refl}
-use Rattle.css_tags.specs.Groups.{IsItem, IsWidth}
+use Rattle.css_tags.specs.Groups.{IsWidth}
 use Rattle.css_tags.proofs.Moving.{moving_first}
 use Rattle.css_tags.proofs.transfer.Transfer.get.Goals as goal
 

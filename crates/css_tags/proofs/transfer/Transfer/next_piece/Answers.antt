@@ -1,4 +1,4 @@
-use Rattle.std.proofs.Common.{ap, ◌∙◌, Some, sym, arith}
+use Rattle.std.proofs.Common.{sym}
 use Rattle.css_tags.proofs.Transfers.{next_of, none_of}
 use Rattle.css_tags.proofs.transfer.Transfer.next_piece.Goals as goal
 

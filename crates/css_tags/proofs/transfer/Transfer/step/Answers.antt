@@ -1,5 +1,5 @@
-use Rattle.std.proofs.Common.{◌≡◌, ◌∙◌, ap, sym, refl, subst, Some, slice_get, length, arith}
-use Rattle.css_tags.specs.Groups.{Moving, IsWidth, IsMoving, with_moved}
+use Rattle.std.proofs.Common.{◌≡◌, ◌∙◌, ap, sym, subst, Some, slice_get, length, arith}
+use Rattle.css_tags.specs.Groups.{Moving, IsWidth, IsMoving}
 use Rattle.css_tags.specs.Transfers.{moving_by}
 use Rattle.css_tags.proofs.Transfers.{next_facts, none_left, copied_is, moved_is, same_target, same_bytes}
 use Rattle.css_tags.proofs.transfer.Transfer.step.Goals as goal
