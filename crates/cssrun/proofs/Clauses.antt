@@ -2,6 +2,7 @@
 use Rattle.std.proofs.Common.{◌≡◌, ℕ, ◌<◌, ◌≤◌, ◌⊎◌, inl, inr, List, Option, Some, sym, ap, ◌∙◌, subst, arith}
 use Rattle.std.specs.Prelude.{IfSome}
 use Rattle.css_small.specs.Grammar.{IsNotBuilt}
+use Rattle.css_words.specs.declared.request.Request.{Request}
 use Rattle.cssrun.specs.Request.{Asks, AreRefused}
 use Rattle.cssrun.specs.Answer.{Answer, IsTextAnswer, Refused, Ended, IsAnswer, WordsRefused, Asked, words_refused, read_fault}
 use Rattle.cssrun.specs.Ends.{Change, HasFailed, Got, GotPrefix, Whole, Cut, Starved, Finishes, Written, CutLine, IsText, ShelfFailed, PlainEnds, Answered, Unread, Unheard, IsWhole, IsCutShort, IsStarved, IsSmooth}
@@ -31,26 +32,26 @@ not_three status (inr high) three = omega (arith, high.0)
 -- an answer with status 2 is that to words that are refused
 refused_answer : (words : List (List ℕ)) (text : List ℕ) (a : Answer) → IsAnswer words text a → a.status ≡ 2 → AreRefused words × (a.report ≡ words_refused)
 refused_answer words text a (WordsRefused refused is) two = (refused, ap (λ (x : Answer). x.report) is)
-refused_answer words text a (Asked file asks answer) two =
-    absurd (not_two a.status (text_answer_status text a answer) two)
+refused_answer words text a (Asked request asks answer) two =
+    absurd (not_two a.status (text_answer_status request.limits text a answer) two)
 
 -- an answer with status 3 is that to a text that isn't of the part that is built
 not_built_answer : (words : List (List ℕ)) (text : List ℕ) (a : Answer) → IsAnswer words text a → a.status ≡ 3 → IsNotBuilt text
 not_built_answer words text a (WordsRefused refused is) three = absurd (let two : a.status ≡ 2 = ap (λ (x : Answer). x.status) is in omega arith)
-not_built_answer words text a (Asked file asks (Refused not is)) three = not
-not_built_answer words text a (Asked file asks (Ended p short spells run)) three = absurd (not_three a.status (run_answer_status p a run) three)
+not_built_answer words text a (Asked request asks (Refused not is)) three = not
+not_built_answer words text a (Asked request asks (Ended p short spells run)) three = absurd (not_three a.status (run_answer_status request.limits p a run) three)
 
 -- a text that isn't of the part that is built is answered with status 3
-not_built_status : (words : List (List ℕ)) (file text : List ℕ) (a : Answer) → Asks words file → IsNotBuilt text → IsAnswer words text a → a.status ≡ 3
-not_built_status words file text a asks not (WordsRefused refused is) = absurd (asks_nothing words file refused asks)
-not_built_status words file text a asks not (Asked other also (Refused not' is)) = ap (λ (x : Answer). x.status) is
-not_built_status words file text a asks not (Asked other also (Ended p short spells run)) = absurd (is_built text p short spells not)
+not_built_status : (words : List (List ℕ)) (request : Request) (text : List ℕ) (a : Answer) → Asks words request → IsNotBuilt text → IsAnswer words text a → a.status ≡ 3
+not_built_status words request text a asks not (WordsRefused refused is) = absurd (asks_nothing words request refused asks)
+not_built_status words request text a asks not (Asked other also (Refused not' is)) = ap (λ (x : Answer). x.status) is
+not_built_status words request text a asks not (Asked other also (Ended p short spells run)) = absurd (is_built text p short spells not)
 
 -- the text that the shelf tells is the file's
-told_text : (words : List (List ℕ)) (told : List ℕ → Option (List ℕ)) (file text other : List ℕ) → Asks words file → told file ≡ Some text → IsText words told other → other ≡ text
-told_text words told file text other asks is is_text =
+told_text : (words : List (List ℕ)) (told : List ℕ → Option (List ℕ)) (request : Request) (text other : List ℕ) → Asks words request → told request.file ≡ Some text → IsText words told other → other ≡ text
+told_text words told request text other asks is is_text =
     let P : Option (List ℕ) → Type 0 = λ f. IfSome f (λ bytes. other ≡ bytes) in
-    subst P is (is_text file asks)
+    subst P is (is_text request asks)
 
 abbrev pub OnlyOneAnswer : Type 0
 OnlyOneAnswer = (words : List (List ℕ)) (text : List ℕ) (a b : Answer) → IsAnswer words text a → IsAnswer words text b → a ≡ b
@@ -124,26 +125,26 @@ module _ (words : List (List ℕ)) (told : List ℕ → Option (List ℕ)) (befo
   at_most_eight (Unheard same (Written eight got)) = omega arith
   at_most_eight (Unheard same (CutLine seven report_failed got)) = omega arith
 
-  pub not_built_only : PlainEnds words told before after out report status → (file text : List ℕ) → Asks words file → told file ≡ Some text → IsNotBuilt text
+  pub not_built_only : PlainEnds words told before after out report status → (request : Request) (text : List ℕ) → Asks words request → told request.file ≡ Some text → IsNotBuilt text
       → (status ≡ 3) ⊎ (6 ≤ status)
-  not_built_only (Answered other is (Whole a one same got_out got)) file text asks told_is not =
-      let not' = subst (λ t. IsNotBuilt t) (sym (told_text words told file text other asks told_is is)) not in
-      inl (same ∙ not_built_status words file other a asks not' one)
-  not_built_only (Answered other is (Cut seven failed got)) file text asks told_is not = inr (omega arith)
-  not_built_only (Answered other is (Starved eight got)) file text asks told_is not = inr (omega arith)
-  not_built_only (Unread failed same (Written six got)) file text asks told_is not = inr (omega arith)
-  not_built_only (Unread failed same (CutLine seven report_failed got)) file text asks told_is not = inr (omega arith)
-  not_built_only (Unheard same (Written eight got)) file text asks told_is not = inr (omega arith)
-  not_built_only (Unheard same (CutLine seven report_failed got)) file text asks told_is not = inr (omega arith)
+  not_built_only (Answered other is (Whole a one same got_out got)) request text asks told_is not =
+      let not' = subst (λ t. IsNotBuilt t) (sym (told_text words told request text other asks told_is is)) not in
+      inl (same ∙ not_built_status words request other a asks not' one)
+  not_built_only (Answered other is (Cut seven failed got)) request text asks told_is not = inr (omega arith)
+  not_built_only (Answered other is (Starved eight got)) request text asks told_is not = inr (omega arith)
+  not_built_only (Unread failed same (Written six got)) request text asks told_is not = inr (omega arith)
+  not_built_only (Unread failed same (CutLine seven report_failed got)) request text asks told_is not = inr (omega arith)
+  not_built_only (Unheard same (Written eight got)) request text asks told_is not = inr (omega arith)
+  not_built_only (Unheard same (CutLine seven report_failed got)) request text asks told_is not = inr (omega arith)
 
   pub smooth_status : OnlyOneAnswer → PlainEnds words told before after out report status → IsSmooth words before after out report
-      → (file text : List ℕ) (a : Answer) → Asks words file → told file ≡ Some text → IsTextAnswer text a → (status ≡ a.status) ⊎ (status ≡ 8)
-  smooth_status only (Answered other is (Whole b one same got_out got)) smooth file text a asks told_is answer =
-      let one' = subst (λ t. IsAnswer words t b) (told_text words told file text other asks told_is is) one in
-      inl (same ∙ ap (λ (x : Answer). x.status) (only words text b a one' (Asked file asks answer)))
-  smooth_status only (Answered other is (Cut seven (inl failed) got)) smooth file text a asks told_is answer = absurd (smooth.no_out failed)
-  smooth_status only (Answered other is (Cut seven (inr failed) got)) smooth file text a asks told_is answer = absurd (smooth.no_report failed)
-  smooth_status only (Answered other is (Starved eight got)) smooth file text a asks told_is answer = inr eight
-  smooth_status only (Unread failed same finishes) smooth file text a asks told_is answer = absurd (smooth.no_shelf failed)
-  smooth_status only (Unheard same (Written eight got)) smooth file text a asks told_is answer = inr eight
-  smooth_status only (Unheard same (CutLine seven failed got)) smooth file text a asks told_is answer = absurd (smooth.no_report failed)
+      → (request : Request) (text : List ℕ) (a : Answer) → Asks words request → told request.file ≡ Some text → IsTextAnswer request.limits text a → (status ≡ a.status) ⊎ (status ≡ 8)
+  smooth_status only (Answered other is (Whole b one same got_out got)) smooth request text a asks told_is answer =
+      let one' = subst (λ t. IsAnswer words t b) (told_text words told request text other asks told_is is) one in
+      inl (same ∙ ap (λ (x : Answer). x.status) (only words text b a one' (Asked request asks answer)))
+  smooth_status only (Answered other is (Cut seven (inl failed) got)) smooth request text a asks told_is answer = absurd (smooth.no_out failed)
+  smooth_status only (Answered other is (Cut seven (inr failed) got)) smooth request text a asks told_is answer = absurd (smooth.no_report failed)
+  smooth_status only (Answered other is (Starved eight got)) smooth request text a asks told_is answer = inr eight
+  smooth_status only (Unread failed same finishes) smooth request text a asks told_is answer = absurd (smooth.no_shelf failed)
+  smooth_status only (Unheard same (Written eight got)) smooth request text a asks told_is answer = inr eight
+  smooth_status only (Unheard same (CutLine seven failed got)) smooth request text a asks told_is answer = absurd (smooth.no_report failed)

@@ -1,5 +1,5 @@
 -- What words ask for that are read.
-use Rattle.std.proofs.Common.{◌≡◌, ℕ, zero, suc, ◌<◌, List, [], ◌∷◌, sym, ap, ◌∙◌, subst, refl, arith}
+use Rattle.std.proofs.Common.{◌≡◌, ℕ, zero, suc, ◌<◌, List, [], ◌∷◌, sym, ap, ◌∙◌, subst, arith}
 use Rattle.std.specs.Prelude.{Contains}
 use Rattle.std.proofs.lemmas.List.Elements.{All-weaker}
 use Rattle.css_words.specs.declared.built.Built.{Built}
@@ -49,28 +49,25 @@ only_erased : (command : Command) → Contains (Erased ∷ []) command → comma
 only_erased command (zero, below, is) = sym is
 only_erased command (suc k, below, is) = absurd (let first : suc k < 1 = below in omega arith)
 
--- words with a reading ask for its file
-pub asks_read : (words : List (List ℕ)) (built : Built) → IsBuilt built → (request : Request) → Reads built words request → Asks words request.file
+-- words with a reading ask for it
+pub asks_read : (words : List (List ℕ)) (built : Built) → IsBuilt built → (request : Request) → Reads built words request → Asks words request
 asks_read words built is request reads =
     record {
       built = built;
       is_built = is;
-      request = request;
       reads = reads;
       command_is = ap (λ (r : Request). r.command) reads.asked ∙ only_erased reads.command (subst (λ cs. Contains cs reads.command) is.commands reads.allowed.is_built);
-      file_is = refl;
     }
 
 -- words without a reading ask for nothing
 pub refused_unread : (words : List (List ℕ)) (built : Built) → IsBuilt built → reading.AreRefused built words → AreRefused words
 refused_unread words built is refused other also request reads = refused request (same_reading other built also is words request reads)
 
--- words that ask for nothing ask for no file
-pub asks_nothing : (words : List (List ℕ)) (file : List ℕ) → AreRefused words → Asks words file → ⊥
-asks_nothing words file refused asks = refused asks.built asks.is_built asks.request asks.reads
+-- words that are refused ask for nothing
+pub asks_nothing : (words : List (List ℕ)) (request : Request) → AreRefused words → Asks words request → ⊥
+asks_nothing words request refused asks = refused asks.built asks.is_built request asks.reads
 
--- words ask for one file
-pub one_file : (words : List (List ℕ)) (file other : List ℕ) → Asks words file → Asks words other → file ≡ other
-one_file words file other one two =
-    let reads = same_reading two.built one.built two.is_built one.is_built words two.request two.reads in
-    sym one.file_is ∙ ap (λ (r : Request). r.file) (one_reading one.built words one.request two.request one.reads reads) ∙ two.file_is
+-- words ask for one thing
+pub one_request : (words : List (List ℕ)) (request other : Request) → Asks words request → Asks words other → request ≡ other
+one_request words request other one two =
+    one_reading one.built words request other one.reads (same_reading two.built one.built two.is_built one.is_built words other two.reads)

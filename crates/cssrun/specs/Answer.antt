@@ -9,12 +9,14 @@ use Rattle.css_base.specs.declared.ending.Stop.{Stop}
 use Rattle.css_base.specs.declared.ending.Stop.TheVariants as stops
 use Rattle.css_base.specs.declared.ending.Who.{Who}
 use Rattle.css_base.specs.declared.ending.Who.TheVariants as whose
+use Rattle.css_base.specs.declared.limits.Limits.{Limits}
 use Rattle.css_base.specs.Labels.{static_label, rule_label, fault_label}
 use Rattle.css_semantics.specs.Dialogue.{Outcome, Goes, Stops, Stopped, Tired, tape_of, output}
 use Rattle.css_semantics.specs.Flat.{flat}
 use Rattle.css_small.specs.Tree.{Program}
 use Rattle.css_small.specs.Grammar.{Spells, IsNotBuilt}
 use Rattle.css_small_code.specs.Meaning.{source}
+use Rattle.css_words.specs.declared.request.Request.{Request}
 use Rattle.cssrun.specs.Request.{Asks, AreRefused}
 
 -- The bytes of standard output and of the report, and the status.
@@ -60,39 +62,32 @@ ending_status (endings.Result (pos zero)) = 0
 ending_status (endings.Result _) = 1
 ending_status (endings.Stopped s line w) = stop_status s
 
--- The bytes of main's memory: no option says otherwise.
-abbrev pub memory : ℕ
-memory = 16777216
-
--- The units of main: no option says otherwise.
-abbrev pub main_units : ℕ
-main_units = 4294967296
-
 -- How main ends, if the fuel doesn't end it.
 abbrev pub ending_of : Outcome ℤ → Option Ending
 ending_of (Goes v tape) = Some (endings.Result v)
 ending_of (Stops (Stopped stop line) tape) = Some (endings.Stopped stop line whose.Main)
 ending_of (Stops Tired tape) = None
 
--- What a program does in the flat memory, with main's units: its output and its ending. More fuel than is enough changes nothing.
-pub record Runs (p : Program) (out : List ℕ) (ending : Ending) : Type 0 where
+-- What a program does in a flat memory and with main's units of these limits: its output and its ending. More fuel than is
+-- enough changes nothing.
+pub record Runs (limits : Limits) (p : Program) (out : List ℕ) (ending : Ending) : Type 0 where
   pub fuel : ℕ
-  pub ending_is : ending_of (source (flat memory main_units) fuel p) ≡ Some ending
-  pub out_is : out ≡ output (tape_of (source (flat memory main_units) fuel p))
+  pub ending_is : ending_of (source (flat limits.memory limits.main_units) fuel p) ≡ Some ending
+  pub out_is : out ≡ output (tape_of (source (flat limits.memory limits.main_units) fuel p))
 
 -- The answer of a program's run.
-pub record IsRunAnswer (p : Program) (a : Answer) : Type 0 where
+pub record IsRunAnswer (limits : Limits) (p : Program) (a : Answer) : Type 0 where
   pub ending : Ending
-  pub runs : Runs p a.out ending
+  pub runs : Runs limits p a.out ending
   pub report_is : a.report ≡ ending_line ending
   pub status_is : a.status ≡ ending_status ending
 
 -- The answer to a text: S0 with line 1 where it isn't of the part of the language that is built, and else what its run gives.
-pub data IsTextAnswer (text : List ℕ) (a : Answer) : Type 0 where
-  Refused : IsNotBuilt text → a ≡ record { out = []; report = static_line names.NotBuilt 1; status = 3 } → IsTextAnswer text a
-  Ended : (p : Program) → length text ≤ 4194304 → Spells text p → IsRunAnswer p a → IsTextAnswer text a
+pub data IsTextAnswer (limits : Limits) (text : List ℕ) (a : Answer) : Type 0 where
+  Refused : IsNotBuilt text → a ≡ record { out = []; report = static_line names.NotBuilt 1; status = 3 } → IsTextAnswer limits text a
+  Ended : (p : Program) → length text ≤ 4194304 → Spells text p → IsRunAnswer limits p a → IsTextAnswer limits text a
 
 -- The answer to words, where the file that they name has this text.
 pub data IsAnswer (words : List (List ℕ)) (text : List ℕ) (a : Answer) : Type 0 where
   WordsRefused : AreRefused words → a ≡ record { out = []; report = words_refused; status = 2 } → IsAnswer words text a
-  Asked : (file : List ℕ) → Asks words file → IsTextAnswer text a → IsAnswer words text a
+  Asked : (request : Request) → Asks words request → IsTextAnswer request.limits text a → IsAnswer words text a

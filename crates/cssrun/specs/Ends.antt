@@ -1,6 +1,7 @@
 -- How a call of the program ends, for its sinks.
 use Rattle.std.specs.Prelude.{◌≡◌, ℕ, ◌⊎◌, List, ◌++◌, Option, IfSome}
 use Rattle.css_io.specs.Outside.{Rose, Appends, AppendsPrefix}
+use Rattle.css_words.specs.declared.request.Request.{Request}
 use Rattle.cssrun.specs.Request.{Asks}
 use Rattle.cssrun.specs.Answer.{Answer, IsAnswer, no_memory, read_fault}
 
@@ -51,13 +52,13 @@ pub data Finishes (c : Change) (line : List ℕ) (status result : ℕ) : Type 0 
 
 -- A text is that of the file that the words name, as far as the shelf tells it.
 abbrev pub IsText : List (List ℕ) → (List ℕ → Option (List ℕ)) → List ℕ → Type 0
-IsText words told text = (file : List ℕ) → Asks words file → IfSome (told file) (λ bytes. text ≡ bytes)
+IsText words told text = (request : Request) → Asks words request → IfSome (told request.file) (λ bytes. text ≡ bytes)
 
 -- The shelf's count for the file rose.
 pub record ShelfFailed (words : List (List ℕ)) (before after : List ℕ → ℕ) : Type 0 where
-  pub file : List ℕ
-  pub asks : Asks words file
-  pub rose : Rose (before file) (after file)
+  pub request : Request
+  pub asks : Asks words request
+  pub rose : Rose (before request.file) (after request.file)
 
 -- All ways in which a call of the program ends.
 pub data PlainEnds (words : List (List ℕ)) (told : List ℕ → Option (List ℕ)) (before after : List ℕ → ℕ) (out report : Change) (status : ℕ) : Type 0 where

@@ -1,5 +1,6 @@
 //! Laws of the answer.
 ghost use Rattle.std.specs.Prelude.{◌≡◌, ◌≤◌, ℕ, List, length};
+ghost use Rattle.css_base.specs.declared.limits.Limits.{Limits};
 ghost use Rattle.css_small.specs.Tree.{Program};
 ghost use Rattle.css_small.specs.Grammar.{Spells};
 ghost use Rattle.cssrun.specs.Answer.{Answer, IsAnswer, IsTextAnswer};
@@ -15,9 +16,9 @@ pub fn one_answer()
     more_fuel();
 }
 
-/// A program that is spelled has an answer.
+/// A program that is spelled has an answer, whatever its run may use.
 pub fn programs_have_answers()
-    ensures { (text : List ℕ) (p : Program) → length text ≤ 4194304 → Spells text p → (a : Answer) × IsTextAnswer text a }
+    ensures { (limits : Limits) (text : List ℕ) (p : Program) → length text ≤ 4194304 → Spells text p → (a : Answer) × IsTextAnswer limits text a }
 {
     enough_fuel();
 }

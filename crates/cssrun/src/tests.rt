@@ -311,7 +311,7 @@ fn expressions_have_values(rt: HostRuntime) -> Result<(), Fail> {
 
 #[test]
 fn words_are_refused(rt: HostRuntime) -> Result<(), Fail> {
-    let rows: [&[&str]; 12] = [
+    let rows: [&[&str]; 16] = [
         &[],
         &["cssrun"],
         &["cssrun", "erased"],
@@ -320,8 +320,18 @@ fn words_are_refused(rt: HostRuntime) -> Result<(), Fail> {
         &["cssrun", "erased", "-x"],
         &["cssrun", "erased", "f.c", "f.c"],
         &["cssrun", "erased", "f.c", "--", "f.c"],
-        &["cssrun", "erased", "--memory", "3000000", "f.c"],
-        &["cssrun", "erased", "--main-units=1", "f.c"],
+        &["cssrun", "erased", "--memory", "2097151", "f.c"],
+        &["cssrun", "erased", "--memory=268435457", "f.c"],
+        &["cssrun", "erased", "f.c", "--memory"],
+        &["cssrun", "erased", "--main-units=0", "f.c"],
+        &[
+            "cssrun",
+            "erased",
+            "--main-units=1",
+            "--main-units=1",
+            "f.c",
+        ],
+        &["cssrun", "erased", "--seed", "1", "f.c"],
         &["cssrun", "Erased", "f.c"],
         &["cssrun", "f.c", "erased"],
     ];
@@ -348,6 +358,49 @@ fn words_name_the_file(rt: HostRuntime) -> Result<(), Fail> {
         expect(&rt, &called, "a", "result 0\n", 0);
         let called = call(&rt, words, ("other", PUT_A.as_bytes()), &NOTHING_FAILS)?;
         expect(&rt, &called, "", "read fault\n", 6);
+    }
+    Ok(())
+}
+
+/// The loop's text takes a unit for main and one for each of its three turns.
+#[test]
+fn options_limit_the_run(rt: HostRuntime) -> Result<(), Fail> {
+    let rows: [(&[&str], &str, &str, u8); 4] = [
+        (
+            &["cssrun", "erased", "--main-units", "4", "f.c"],
+            "abc",
+            "result 1\n",
+            1,
+        ),
+        (
+            &["cssrun", "erased", "f.c", "--main-units=3"],
+            "ab",
+            "rule X15 Units line 1 main\n",
+            5,
+        ),
+        (
+            &["cssrun", "erased", "--memory=2097152", "f.c"],
+            "abc",
+            "result 1\n",
+            1,
+        ),
+        (
+            &[
+                "cssrun",
+                "erased",
+                "--memory",
+                "3000000",
+                "f.c",
+                "--main-units=1099511627776",
+            ],
+            "abc",
+            "result 1\n",
+            1,
+        ),
+    ];
+    for (words, out, report, status) in rows {
+        let called = call(&rt, words, ("f.c", COUNTS_TO_3.as_bytes()), &NOTHING_FAILS)?;
+        expect(&rt, &called, out, report, status);
     }
     Ok(())
 }

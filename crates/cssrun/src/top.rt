@@ -1,9 +1,11 @@
 //! The program's calls.
 ghost use Rattle.std.specs.Prelude.{◌≡◌, ◌<◌, ◌≤◌, ◌⊎◌, ℕ, List, Option, Some, IfSome};
+ghost use Rattle.css_base.specs.Limits.{IsInRange};
 ghost use Rattle.css_io.specs.Outside.{Rose};
 ghost use Rattle.css_small.specs.Tree.{program};
 ghost use Rattle.css_small.specs.Grammar.{Spells, IsNotBuilt};
 ghost use Rattle.css_small.specs.Numbers.{HasNumbers};
+ghost use Rattle.css_words.specs.declared.request.Request.{Request};
 ghost use Rattle.cssrun.specs.Answer.{Answer, IsAnswer, IsTextAnswer, IsRunAnswer, words_refused, read_fault, no_memory, static_line, ending_line, ending_status};
 ghost use Rattle.cssrun.specs.Request.{Asks, AreRefused};
 ghost use Rattle.cssrun.specs.Ends.{Change, change, HasFailed, Got, Ends, Finishes, IsText, IsWhole, IsCutShort, IsStarved, IsSmooth, ShelfFailed, PlainEnds};
@@ -17,7 +19,7 @@ use css_base::{Ending, FrontFault, Limits, StaticFault, Words};
 use css_io::{Shelf, ShelfFault, Sink, Source};
 use css_small::{Program, numbers_fit, one_program, read_program};
 use css_small_code::{enough_fuel, make_code, more_fuel};
-use css_words::{WordsFault, read_words};
+use css_words::{Request, WordsFault, read_words};
 use std::alloc::Global;
 
 /// The most bytes of a program's text.
@@ -32,9 +34,10 @@ const READ_FAULT_STATUS: u8 = 6;
 const NO_MEMORY_STATUS: u8 = 8;
 
 /// The whole program but for the commands that wait: reads the words, then the file that they name, then runs its main with the
-/// pragmas erased. What main prints goes to `out`, and how it ended to `report`. The status is 0 at the result 0, 1 at another
-/// result, 2 where the words are refused, 3 where the text breaks a static rule, 4 where main is at fault, 5 where it breaks a rule of
-/// the run, 6 where the file can't be read, 7 where a sink failed, and 8 where there was no memory. Always returns.
+/// pragmas erased, in the memory and with the units that they ask for. What main prints goes to `out`, and how it ended to `report`.
+/// The status is 0 at the result 0, 1 at another result, 2 where the words are refused, 3 where the text breaks a static rule, 4
+/// where main is at fault, 5 where it breaks a rule of the run, 6 where the file can't be read, 7 where a sink failed, and 8 where
+/// there was no memory. Always returns.
 pub fn plain_top<S: Shelf, I: Source, O: Sink, R: Sink>(
     alloc: Global,
     words: &Words,
@@ -56,7 +59,7 @@ pub fn plain_top<S: Shelf, I: Source, O: Sink, R: Sink>(
 
     // 3 comes exactly where the text isn't of the part of the language that is built.
     ensures refusal { result ≡ 3 → (text : List ℕ) × IsText words.now (S.file shelf.old) text × IsNotBuilt text }
-    ensures refusal_only { (file text : List ℕ) → Asks words.now file → S.file shelf.old file ≡ Some text → IsNotBuilt text
+    ensures refusal_only { (request : Request) (text : List ℕ) → Asks words.now request → S.file shelf.old request.file ≡ Some text → IsNotBuilt text
         → (result ≡ 3) ⊎ (6 ≤ result) }
 
     // A status below 6 is the answer's, with exactly the answer's bytes.
@@ -76,7 +79,8 @@ pub fn plain_top<S: Shelf, I: Source, O: Sink, R: Sink>(
     // Where no count rose, the status is the answer's, or 8.
     ensures complete { IsSmooth words.now (S.faults shelf.old) (S.faults shelf.new)
         (change O.written O.faults out.old out.new) (change R.written R.faults report.old report.new)
-        → (file text : List ℕ) (a : Answer) → Asks words.now file → S.file shelf.old file ≡ Some text → IsTextAnswer text a
+        → (request : Request) (text : List ℕ) (a : Answer) → Asks words.now request → S.file shelf.old request.file ≡ Some text
+        → IsTextAnswer request.limits text a
         → (result ≡ a.status) ⊎ (result ≡ 8) }
 
     // What isn't read is as it was.
@@ -104,40 +108,48 @@ fn answer_words<S: Shelf, O: Sink, R: Sink>(
     ensures untouched { AreRefused words.now → (shelf.new ≡ shelf.old) × (out.new ≡ out.old) }
 {
     match read_words(alloc, words, &BUILT) {
-        Ok(request) => erased(alloc, request.file.text(), shelf, out, report),
+        Ok(request) => erased(alloc, &request, shelf, out, report),
         Err(WordsFault::Refused) => finish(report, WORDS_REFUSED, WORDS_REFUSED_STATUS),
         Err(WordsFault::NoMemory) => finish(report, NO_MEMORY, NO_MEMORY_STATUS),
     }
 }
 
-// Runs the program of a file.
+// Runs the program of the file that is asked for.
 fn erased<S: Shelf, O: Sink, R: Sink>(
     alloc: Global,
-    name: &str,
+    request: &Request,
     shelf: &mut S,
     out: &mut O,
     report: &mut R,
 ) -> u8
-    ensures { (words : List (List ℕ)) → Asks words name.now → PlainEnds words (S.file shelf.old) (S.faults shelf.old) (S.faults shelf.new)
+    requires { IsInRange request.now.limits }
+    ensures { (words : List (List ℕ)) → Asks words request.now → PlainEnds words (S.file shelf.old) (S.faults shelf.old) (S.faults shelf.new)
         (change O.written O.faults out.old out.new) (change R.written R.faults report.old report.new) result }
 {
-    match shelf.read_file(alloc, name, TEXT_LIMIT + 1) {
-        Ok(text) => run_text(alloc, text.as_slice(), out, report),
+    match shelf.read_file(alloc, request.file.text(), TEXT_LIMIT + 1) {
+        Ok(text) => run_text(alloc, text.as_slice(), request.limits, out, report),
         Err(ShelfFault::Failed) => finish(report, READ_FAULT, READ_FAULT_STATUS),
         Err(ShelfFault::NoMemory) => finish(report, NO_MEMORY, NO_MEMORY_STATUS),
     }
 }
 
 // Runs the program of a text, of which no more than one byte past the limit need be there.
-fn run_text<O: Sink, R: Sink>(alloc: Global, text: &[u8], out: &mut O, report: &mut R) -> u8
-    ensures { Ends (IsTextAnswer text.now) (change O.written O.faults out.old out.new) (change R.written R.faults report.old report.new) result }
+fn run_text<O: Sink, R: Sink>(
+    alloc: Global,
+    text: &[u8],
+    limits: Limits,
+    out: &mut O,
+    report: &mut R,
+) -> u8
+    requires { IsInRange limits }
+    ensures { Ends (IsTextAnswer limits text.now) (change O.written O.faults out.old out.new) (change R.written R.faults report.old report.new) result }
 {
     match read_program(alloc, text) {
         Ok(tree) => {
             // The text's answer is that of this program, since the text spells no other.
             one_program();
             numbers_fit();
-            run_program(alloc, &tree, out, report)
+            run_program(alloc, &tree, limits, out, report)
         }
         Err(FrontFault::Static(fault)) => refuse(alloc, &fault, report),
         Err(FrontFault::NoMemory) => finish(report, NO_MEMORY, NO_MEMORY_STATUS),
@@ -156,9 +168,16 @@ fn refuse<R: Sink>(alloc: Global, fault: &StaticFault, report: &mut R) -> u8
 }
 
 // Compiles a program and runs it.
-fn run_program<O: Sink, R: Sink>(alloc: Global, tree: &Program, out: &mut O, report: &mut R) -> u8
-    requires { HasNumbers (program tree.now) }
-    ensures { Ends (IsRunAnswer (program tree.now)) (change O.written O.faults out.old out.new) (change R.written R.faults report.old report.new) result }
+fn run_program<O: Sink, R: Sink>(
+    alloc: Global,
+    tree: &Program,
+    limits: Limits,
+    out: &mut O,
+    report: &mut R,
+) -> u8
+    requires numbers { HasNumbers (program tree.now) }
+    requires limits { IsInRange limits }
+    ensures { Ends (IsRunAnswer limits (program tree.now)) (change O.written O.faults out.old out.new) (change R.written R.faults report.old report.new) result }
 {
     let Ok(code) = make_code(alloc, tree) else {
         return finish(report, NO_MEMORY, NO_MEMORY_STATUS);
@@ -166,7 +185,6 @@ fn run_program<O: Sink, R: Sink>(alloc: Global, tree: &Program, out: &mut O, rep
     // The program ends within its units, and that ending is its only one.
     enough_fuel();
     more_fuel();
-    let limits = Limits::DEFAULT;
     match run_main(alloc, &code, limits.memory, limits.main_units, out) {
         Ran::Ended(ending) => end(alloc, &ending, report),
         Ran::WriteFault => WRITE_FAULT_STATUS,

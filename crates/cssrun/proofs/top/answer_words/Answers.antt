@@ -6,7 +6,7 @@ use Rattle.cssrun.proofs.Words.{asks_read, refused_unread}
 use Rattle.cssrun.proofs.top.answer_words.Goals as goal
 
 pub returns-in-Ok-clause-ends : goal.returns-in-Ok-clause-ends
-returns-in-Ok-clause-ends g c = c.erased.ensures c.args.words.now (rw c.text.ensures (asks_read c.args.words.now _ (record { commands = refl; options = refl }) c.in-Ok.request c.in-Ok.ensures.ok))
+returns-in-Ok-clause-ends g c = c.erased.ensures c.args.words.now (asks_read c.args.words.now _ (record { commands = refl; options = refl }) c.in-Ok.request c.in-Ok.ensures.ok)
 
 pub returns-in-Ok-clause-refused : goal.returns-in-Ok-clause-refused
 returns-in-Ok-clause-refused g c = λ refused. absurd (refused _ (record { commands = refl; options = refl }) c.in-Ok.request c.in-Ok.ensures.ok)
