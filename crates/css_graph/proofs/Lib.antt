@@ -1,6 +1,7 @@
 pub mod Numbers
 pub mod Keyed
 pub mod Counts
+pub mod NodeLists
 pub mod States
 pub mod Takeable
 pub mod Following

@@ -1,13 +1,13 @@
 //! The nodes of the added tasks, with queues of those that are ready.
-ghost use Rattle.std.specs.Prelude.{◌≡◌, ℕ, ◌==◌, ◌+◌, ◌<◌, ◌≤◌, Bool, true, false, ◌&&◌, [], ◌∷◌, ◌++◌, length, map, take, IfOk, OnOk, OnErr, IfSome, IfNone, None};
-ghost use Rattle.std.specs.List.{HoldsAt, list_any, list_all};
-ghost use Rattle.std.specs.Prelude.{count_by, not, nat_lt, slice_set, slice_index_or, vec_len, vec_capacity};
-ghost use Rattle.css_graph.specs.declared.node.Node.{Node};
+ghost use Rattle.std.specs.Prelude.{◌≡◌, ℕ, ◌==◌, ◌+◌, ◌<◌, ◌≤◌, Bool, true, false, ◌&&◌, [], ◌∷◌, ◌++◌, length, map, take, IfOk, OnOk};
+ghost use Rattle.std.specs.List.{list_any, list_all};
+ghost use Rattle.std.specs.Prelude.{count_by, not, nat_lt};
 ghost use Rattle.css_graph.specs.Tasks.{is_number_added, is_number_out, is_number_finished};
 ghost use Rattle.css_graph.specs.Nodes.{Agenda as Plan, IsAscending, task_of, numbers_where, ready_high, ready_low, at_number, in_state, one_less_missing, in_state_by, less_by, is_below, lower_bound, is_ready, put};
 ghost use Rattle.css_graph.specs.Chain.{missing_at, may_follow};
 
 use crate::node::Node;
+use crate::nodes::Nodes;
 use crate::queue::Queue;
 use crate::state::TaskState;
 use css_base::NoMemory;
@@ -18,7 +18,7 @@ use std::marker::Model;
 /// the nodes, the bound, and for how many nodes there is room.
 #[derive(Drop)]
 pub(crate) struct Agenda {
-    nodes: Vec<Node>,
+    nodes: Nodes,
     bound: Option<u64>,
     high: Queue,
     low: Queue,
@@ -35,16 +35,6 @@ impl Model for Agenda {
     ghost use Rattle.css_graph.specs.Agenda.{IsSound};
 
     ghost invariant = { IsSound };
-}
-
-/// The place of the node of a number, if there is one.
-fn position(nodes: &[Node], number: u64) -> Option<usize>
-    requires { IsAscending (map (λ x. x.number) nodes.now) }
-    ensures within { IfSome result (λ at. at < length nodes.now) }
-    ensures found { IfSome result (λ at. HoldsAt (λ x. x.number ≡ number) nodes.now at) }
-    ensures absent { IfNone result (list_any (λ x. x.number == number) nodes.now ≡ false) }
-{
-    nodes.binary_search_by_key(&number, |node| node.number).ok()
 }
 
 /// Whether a node waits, misses no producer, and stands below the bound.
@@ -95,33 +85,13 @@ fn lower_of(bound: Option<u64>, number: u64) -> Option<u64>
     }
 }
 
-/// Brings the task at a place to a state.
-fn set_state_at(nodes: &mut Vec<Node>, at: usize, state: TaskState)
-    requires { at < length nodes.old.items }
-    ensures items { (d : Node) → nodes.new.items ≡ slice_set nodes.old.items at (in_state state (slice_index_or nodes.old.items at d)) }
-    ensures len { vec_len nodes.new ≡ vec_len nodes.old }
-    ensures capacity { vec_capacity nodes.new ≡ vec_capacity nodes.old }
-{
-    nodes[at].state = state;
-}
-
-/// Counts one producer of the task at a place less as missing.
-fn release_at(nodes: &mut Vec<Node>, at: usize)
-    requires { at < length nodes.old.items }
-    ensures items { (d : Node) → nodes.new.items ≡ slice_set nodes.old.items at (one_less_missing (slice_index_or nodes.old.items at d)) }
-    ensures len { vec_len nodes.new ≡ vec_len nodes.old }
-    ensures capacity { vec_capacity nodes.new ≡ vec_capacity nodes.old }
-{
-    nodes[at].missing = nodes[at].missing.saturating_sub(1);
-}
-
 impl Agenda {
     /// No nodes. Takes no memory.
     pub(crate) fn new(alloc: Global) -> Agenda
         ensures { result ≡ record { nodes = []; bound = None; room = 0 } }
     {
         Agenda {
-            nodes: Vec::new(alloc),
+            nodes: Nodes::new(alloc),
             bound: None,
             high: Queue::new(alloc),
             low: Queue::new(alloc),
@@ -152,8 +122,8 @@ impl Agenda {
     pub(crate) fn is_finished(&self, number: u64) -> bool
         ensures { result ≡ is_number_finished (map task_of self.now.nodes) number }
     {
-        match position(&self.nodes, number) {
-            Some(at) => self.nodes[at].state.is_finished(),
+        match self.nodes.find(number) {
+            Some(at) => self.nodes.get(at).state.is_finished(),
             None => false,
         }
     }
@@ -162,8 +132,8 @@ impl Agenda {
     pub(crate) fn is_out(&self, number: u64) -> bool
         ensures { result ≡ is_number_out (map task_of self.now.nodes) number }
     {
-        match position(&self.nodes, number) {
-            Some(at) => self.nodes[at].state.is_out(),
+        match self.nodes.find(number) {
+            Some(at) => self.nodes.get(at).state.is_out(),
             None => false,
         }
     }
@@ -172,7 +142,7 @@ impl Agenda {
     pub(crate) fn is_added(&self, number: u64) -> bool
         ensures { result ≡ is_number_added (map task_of self.now.nodes) number }
     {
-        match position(&self.nodes, number) {
+        match self.nodes.find(number) {
             Some(_at) => true,
             None => false,
         }
@@ -182,7 +152,7 @@ impl Agenda {
     pub(crate) fn is_last(&self, number: u64) -> bool
         ensures { result ≡ list_all (λ x. nat_lt x.number number) self.now.nodes }
     {
-        self.nodes.iter().all(|node| node.number < number)
+        self.nodes.are_below(number)
     }
 
     /// How many of these numbers are of tasks that aren't finished.
@@ -196,8 +166,8 @@ impl Agenda {
     pub(crate) fn missing_at(&self, number: u64) -> usize
         ensures { result ≡ missing_at self.now.nodes number }
     {
-        match position(&self.nodes, number) {
-            Some(at) => self.nodes[at].missing,
+        match self.nodes.find(number) {
+            Some(at) => self.nodes.get(at).missing,
             None => 0,
         }
     }
@@ -206,8 +176,8 @@ impl Agenda {
     pub(crate) fn may_follow(&self, number: u64) -> bool
         ensures { result ≡ list_any (λ x. (x.number == number) && may_follow self.now.bound x) self.now.nodes }
     {
-        match position(&self.nodes, number) {
-            Some(at) => node_may_follow(&self.nodes[at], self.bound),
+        match self.nodes.find(number) {
+            Some(at) => node_may_follow(self.nodes.get(at), self.bound),
             None => false,
         }
     }
@@ -218,7 +188,7 @@ impl Agenda {
         ensures bound { self.new.bound ≡ self.old.bound }
         ensures room { OnOk result (length self.new.nodes < self.new.room) }
     {
-        self.nodes.reserve(1)?;
+        self.nodes.reserve_one()?;
         let room = self.nodes.len() + 1;
         self.high.reserve(room)?;
         self.low.reserve(room)?;
@@ -262,10 +232,15 @@ impl Agenda {
         ensures nodes { self.new.nodes ≡ at_number number (in_state state) self.old.nodes }
         ensures bound { self.new.bound ≡ self.old.bound }
     {
-        match position(&self.nodes, number) {
+        match self.nodes.find(number) {
             Some(at) => {
-                set_state_at(&mut self.nodes, at, state);
-                requeue(&self.nodes[at], self.bound, &mut self.high, &mut self.low);
+                self.nodes.set_state(at, state);
+                requeue(
+                    self.nodes.get(at),
+                    self.bound,
+                    &mut self.high,
+                    &mut self.low,
+                );
             }
             None => {}
         }
@@ -276,10 +251,15 @@ impl Agenda {
         ensures nodes { self.new.nodes ≡ at_number number one_less_missing self.old.nodes }
         ensures bound { self.new.bound ≡ self.old.bound }
     {
-        match position(&self.nodes, number) {
+        match self.nodes.find(number) {
             Some(at) => {
-                release_at(&mut self.nodes, at);
-                requeue(&self.nodes[at], self.bound, &mut self.high, &mut self.low);
+                self.nodes.release(at);
+                requeue(
+                    self.nodes.get(at),
+                    self.bound,
+                    &mut self.high,
+                    &mut self.low,
+                );
             }
             None => {}
         }

@@ -7,6 +7,7 @@ mod chosen;
 mod consumers;
 mod graph;
 mod node;
+mod nodes;
 mod queue;
 mod state;
 #[cfg(test)]

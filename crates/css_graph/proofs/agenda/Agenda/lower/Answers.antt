@@ -1,6 +1,5 @@
-use Rattle.std.proofs.Common.{◌≡◌, ◌<◌, ◌≤◌, ℕ, ◌+◌, Bool, true, false, List, ◌∷◌, [], ◌++◌, eqb, length, get_or, map, Option, ap, sym, ◌∙◌, subst, arith, rules, length-append}
-use Rattle.css_graph.specs.declared.node.Node.{Node}
-use Rattle.css_graph.specs.Nodes.{Agenda, IsAscending, ready_high, ready_low, numbers_where, in_state, one_less_missing, put}
+use Rattle.std.proofs.Common.{ℕ, Option, ap, sym, ◌∙◌, arith}
+use Rattle.css_graph.specs.Nodes.{ready_high, ready_low, numbers_where}
 use Rattle.css_graph.specs.Nodes.{below}
 use Rattle.css_graph.proofs.Agendas.{high_lowered, low_lowered}
 use Rattle.css_graph.proofs.agenda.Agenda.lower.Goals as goal
@@ -17,4 +16,5 @@ invariant_of-self c =
       nodes_room = c.self.invariant.nodes_room;
       high_room = omega (arith, c.self.invariant.high_room, c.keep_below.ensures.room);
       low_room = omega (arith, c.self.invariant.low_room, c.keep_below-2.ensures.room);
+      small = c.self.invariant.small;
     }

@@ -1,8 +1,5 @@
-use Rattle.std.proofs.Common.{◌≡◌, ◌<◌, ◌≤◌, ℕ, ◌+◌, Bool, true, false, List, ◌∷◌, [], ◌++◌, eqb, length, get_or, map, Option, ap, sym, ◌∙◌, subst, arith, rules, length-append}
-use Rattle.css_graph.specs.declared.node.Node.{Node}
-use Rattle.css_graph.specs.Nodes.{Agenda, IsAscending, ready_high, ready_low, numbers_where, in_state, one_less_missing, put}
-use Rattle.css_graph.specs.Tasks.{is_number_finished}
-use Rattle.css_graph.specs.Chain.{missing_at}
+use Rattle.std.proofs.Common.{◌≡◌, ◌<◌, length, get_or, ap, sym}
+use Rattle.css_graph.specs.Nodes.{Agenda}
 use Rattle.css_graph.proofs.Agendas.{missing_read, missing_absent}
 use Rattle.css_graph.proofs.agenda.Agenda.missing_at.Goals as goal
 
@@ -10,14 +7,14 @@ pub returns-in-Some : goal.returns-in-Some
 returns-in-Some c =
     let xs = c.self.inside.nodes.items in
     let e : xs ≡ c.args.self.now.nodes = ap (λ (a : Agenda). a.nodes) c.self.view_is in
-    let at : (get_or xs c.in-Some.at c.index.result.now).number ≡ c.args.number = rw c.deref.ensures.value at (c.in-Some.ensures.found c.index.result.now) in
-    let l : c.in-Some.at < length xs = rw c.deref.ensures.value at c.in-Some.ensures.within in
-    let read = missing_read c.args.number xs c.in-Some.at c.index.result.now c.self.invariant.ordered l at c.index.ensures in
+    let at : (get_or xs c.in-Some.at c.get.result.now).number ≡ c.args.number = c.in-Some.ensures.found c.get.result.now in
+    let l : c.in-Some.at < length xs = c.in-Some.ensures.within in
+    let read = missing_read c.args.number xs c.in-Some.at c.get.result.now c.self.invariant.ordered l at (c.get.ensures c.get.result.now) in
     rw (← e) (sym (read))
 
 pub returns-in-None : goal.returns-in-None
 returns-in-None c =
     let xs = c.self.inside.nodes.items in
     let e : xs ≡ c.args.self.now.nodes = ap (λ (a : Agenda). a.nodes) c.self.view_is in
-    let gone = rw c.deref.ensures.value at c.in-None.ensures.absent in
+    let gone = c.in-None.ensures.absent in
     rw (← e) (sym (missing_absent c.args.number xs gone))

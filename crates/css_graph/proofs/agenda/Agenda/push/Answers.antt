@@ -1,6 +1,6 @@
-use Rattle.std.proofs.Common.{◌≡◌, ◌<◌, ◌≤◌, ℕ, ◌+◌, Bool, true, false, List, ◌∷◌, [], ◌++◌, eqb, length, get_or, map, Option, ap, sym, ◌∙◌, subst, arith, rules, length-append}
+use Rattle.std.proofs.Common.{◌≡◌, ℕ, Bool, List, ◌∷◌, [], ◌++◌, length, map, ap, sym, ◌∙◌, subst, arith, length-append}
 use Rattle.css_graph.specs.declared.node.Node.{Node}
-use Rattle.css_graph.specs.Nodes.{Agenda, IsAscending, ready_high, ready_low, numbers_where, in_state, one_less_missing, put}
+use Rattle.css_graph.specs.Nodes.{Agenda, IsAscending, ready_high, ready_low, numbers_where, put}
 use Rattle.css_graph.proofs.Keyed.{where_pushed, ascending_pushed}
 use Rattle.css_graph.proofs.Agendas.{length_where}
 use Rattle.css_graph.proofs.agenda.Agenda.push.Goals as goal
@@ -52,7 +52,8 @@ invariant_of-self c =
       high = c.requeue.ensures.high ∙ ap (put c.args.node.number (ready_high b c.args.node)) c.self.invariant.high ∙ where_pushed number_of (ready_high b) xs c.args.node under ∙ ap (numbers_where (ready_high b)) (sym items);
       low = c.requeue.ensures.low ∙ ap (put c.args.node.number (ready_low b c.args.node)) c.self.invariant.low ∙ where_pushed number_of (ready_low b) xs c.args.node under ∙ ap (numbers_where (ready_low b)) (sym items);
       within = omega (arith, one, long, same, r, c.requires.room);
-      nodes_room = omega (arith, c.push_reserved.ensures.capacity, c.self.invariant.nodes_room);
+      nodes_room = omega (arith, c.push_reserved.ensures.room, c.self.invariant.nodes_room);
       high_room = omega (arith, c.self.invariant.high_room, c.requeue.ensures.high_room);
       low_room = omega (arith, c.self.invariant.low_room, c.requeue.ensures.low_room);
+      small = c.self.invariant.small;
     }
