@@ -8,6 +8,8 @@ use std::alloc::{AllocError, Global};
 use std::process::Abort;
 use std::test::Fail;
 
+mod groups;
+
 // A block of so many bytes.
 fn block(alloc: Global, length: u32) -> Result<Block, AllocError>
     requires { 1 ≤ length }
