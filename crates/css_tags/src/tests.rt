@@ -8,7 +8,9 @@ use std::alloc::{AllocError, Global};
 use std::process::Abort;
 use std::test::Fail;
 
+mod full;
 mod groups;
+mod staged;
 
 // A block of so many bytes.
 fn block(alloc: Global, length: u32) -> Result<Block, AllocError>

@@ -2,8 +2,8 @@
 ghost use Rattle.std.specs.Prelude.{◌≡◌, ◌≤◌, ◌<◌, ◌^◌, length as count, IfOk};
 ghost use Rattle.css_tags.specs.Groups.{IsWidth, IsItem};
 
-use super::moved;
-use crate::{Block, Group, Item};
+use super::{moved, sevens};
+use crate::{Block, Channel, Group, IssueRefused, Item};
 use css_base::Buffer;
 use css_place::Placer;
 use std::alloc::{AllocError, Global};
@@ -11,7 +11,7 @@ use std::process::Abort;
 use std::test::Fail;
 
 // The next block of a store, with these bytes.
-fn filled(alloc: Global, placer: &mut Placer, bytes: &[u8]) -> Result<Block, AllocError>
+pub fn filled(alloc: Global, placer: &mut Placer, bytes: &[u8]) -> Result<Block, AllocError>
     requires least { 1 ≤ count bytes.now }
     requires most { count bytes.now < 2 ^ 32 }
     ensures { IfOk result (λ b. b.bytes ≡ bytes.now) }
@@ -28,7 +28,7 @@ fn filled(alloc: Global, placer: &mut Placer, bytes: &[u8]) -> Result<Block, All
 }
 
 // An item that brings bytes, in rows of this width, to a block that has others.
-fn brought(alloc: Global, block: Block, bytes: &[u8], width: u32) -> Result<Item, AllocError>
+pub fn brought(alloc: Global, block: Block, bytes: &[u8], width: u32) -> Result<Item, AllocError>
     requires same { count block.bytes ≡ count bytes.now }
     requires width { IsWidth width (count bytes.now) }
     ensures { IfOk result IsItem }
@@ -40,7 +40,7 @@ fn brought(alloc: Global, block: Block, bytes: &[u8], width: u32) -> Result<Item
 }
 
 // Whether the blocks have these bytes, in this order.
-fn have(blocks: &[Block], wanted: &[&[u8]]) -> bool {
+pub fn have(blocks: &[Block], wanted: &[&[u8]]) -> bool {
     blocks.len() == wanted.len()
         && blocks
             .iter()
@@ -50,7 +50,7 @@ fn have(blocks: &[Block], wanted: &[&[u8]]) -> bool {
 
 // A get group of an item of each kind: ones, twos and threes that come row by row over fours, a fresh block that had sevens, and
 // one that is kept with its eights. Of the 130 bytes that are kept the last is a 9.
-fn kinds(alloc: Global) -> Result<Group, AllocError> {
+pub fn kinds(alloc: Global) -> Result<Group, AllocError> {
     let mut placer = Placer::new(1_032_192);
     let block = filled(alloc, &mut placer, &[4, 5, 6])?;
     let item = brought(alloc, block, &[1, 2, 3], 1)?;
@@ -79,6 +79,65 @@ fn each_kind_of_item(rt: HostRuntime) -> Result<(), Fail> {
     assert_eq!(rt;
         have(blocks.as_slice(), &[&[1, 2, 3], &[0; 130], &kept]),
         true
+    );
+    Ok(())
+}
+
+// The group that a channel hands back, since the tag isn't free.
+fn refused(alloc: Global, group: Group) -> Result<Group, AllocError>
+    ensures { IfOk result (λ g. g ≡ group) }
+{
+    let Ok(mut channel) = Channel::new(alloc) else {
+        return Err(AllocError);
+    };
+    let Ok(()) = channel.issue(alloc, 31, sevens(alloc, 1, 1)?) else {
+        return Err(AllocError);
+    };
+    let Err(IssueRefused::Busy(group)) = channel.issue(alloc, 31, group) else {
+        return Err(AllocError);
+    };
+    Ok(group)
+}
+
+// Nothing is moved of a group that is handed back, and then its pieces can be moved.
+#[test]
+fn a_group_handed_back(rt: HostRuntime) -> Result<(), Fail> {
+    let alloc = rt.alloc();
+    let mut kept = [8; 130];
+    kept[129] = 9;
+    let blocks = refused(alloc, kinds(alloc)?)?.into_blocks();
+    assert_eq!(rt;
+        have(blocks.as_slice(), &[&[4, 5, 6], &[0; 130], &kept]),
+        true
+    );
+    let (group, pieces) = moved(refused(alloc, kinds(alloc)?)?);
+    assert_eq!(rt; pieces, 3);
+    let blocks = group.into_blocks();
+    assert_eq!(rt;
+        have(blocks.as_slice(), &[&[1, 2, 3], &[0; 130], &kept]),
+        true
+    );
+    Ok(())
+}
+
+// Start and length of the blocks' places, in order.
+pub fn places(alloc: Global, blocks: Vec<Block>) -> Result<Vec<(u32, u32)>, AllocError> {
+    let mut places = Vec::new(alloc);
+    for block in blocks {
+        let place = block.into_place();
+        places.push((place.start(), place.length()))?;
+    }
+    Ok(places)
+}
+
+// 3 bytes have a place of 128, and 130 bytes one of 256.
+#[test]
+fn places_given_back(rt: HostRuntime) -> Result<(), Fail> {
+    let alloc = rt.alloc();
+    let blocks = kinds(alloc)?.into_blocks();
+    assert_eq!(rt;
+        places(alloc, blocks)?.as_slice(),
+        [(0, 128), (128, 256), (384, 256)].as_slice()
     );
     Ok(())
 }
