@@ -8,6 +8,10 @@ use std::alloc::{AllocError, Global};
 use std::process::Abort;
 use std::test::Fail;
 
+mod full;
+mod groups;
+mod staged;
+
 // A block of so many bytes.
 fn block(alloc: Global, length: u32) -> Result<Block, AllocError>
     requires { 1 ≤ length }
