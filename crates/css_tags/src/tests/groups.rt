@@ -48,16 +48,22 @@ pub fn have(blocks: &[Block], wanted: &[&[u8]]) -> bool {
             .all(|(block, bytes)| block.as_slice() == *bytes)
 }
 
-// A get group of an item of each kind: ones, twos and threes that come row by row over fours, a fresh block that had sevens, and
-// one that is kept with its eights. Of the 130 bytes that are kept the last is a 9.
+// 130 bytes: eights between a 1 and a 9.
+pub fn eights() -> [u8; 130] {
+    let mut bytes = [8; 130];
+    bytes[0] = 1;
+    bytes[129] = 9;
+    bytes
+}
+
+// A get group with an item of each kind: a block of 4, 5, 6 gets 1, 2, 3 in three rows, one that has sevens gets zeros, and
+// one is kept with its eights.
 pub fn kinds(alloc: Global) -> Result<Group, AllocError> {
     let mut placer = Placer::new(1_032_192);
     let block = filled(alloc, &mut placer, &[4, 5, 6])?;
     let item = brought(alloc, block, &[1, 2, 3], 1)?;
     let fresh = filled(alloc, &mut placer, &[7; 130])?;
-    let mut bytes = [8; 130];
-    bytes[129] = 9;
-    let kept = filled(alloc, &mut placer, &bytes)?;
+    let kept = filled(alloc, &mut placer, &eights())?;
     let mut items = Vec::new(alloc);
     items.push(item)?;
     items.push(Item::Fresh(fresh))?;
@@ -71,13 +77,11 @@ pub fn kinds(alloc: Global) -> Result<Group, AllocError> {
 // The item that brings bytes has three pieces, and the other two have none.
 #[test]
 fn each_kind_of_item(rt: HostRuntime) -> Result<(), Fail> {
-    let mut kept = [8; 130];
-    kept[129] = 9;
     let (group, pieces) = moved(kinds(rt.alloc())?);
     assert_eq!(rt; pieces, 3);
     let blocks = group.into_blocks();
     assert_eq!(rt;
-        have(blocks.as_slice(), &[&[1, 2, 3], &[0; 130], &kept]),
+        have(blocks.as_slice(), &[&[1, 2, 3], &[0; 130], &eights()]),
         true
     );
     Ok(())
@@ -103,18 +107,16 @@ fn refused(alloc: Global, group: Group) -> Result<Group, AllocError>
 #[test]
 fn a_group_handed_back(rt: HostRuntime) -> Result<(), Fail> {
     let alloc = rt.alloc();
-    let mut kept = [8; 130];
-    kept[129] = 9;
     let blocks = refused(alloc, kinds(alloc)?)?.into_blocks();
     assert_eq!(rt;
-        have(blocks.as_slice(), &[&[4, 5, 6], &[0; 130], &kept]),
+        have(blocks.as_slice(), &[&[4, 5, 6], &[0; 130], &eights()]),
         true
     );
     let (group, pieces) = moved(refused(alloc, kinds(alloc)?)?);
     assert_eq!(rt; pieces, 3);
     let blocks = group.into_blocks();
     assert_eq!(rt;
-        have(blocks.as_slice(), &[&[1, 2, 3], &[0; 130], &kept]),
+        have(blocks.as_slice(), &[&[1, 2, 3], &[0; 130], &eights()]),
         true
     );
     Ok(())

@@ -3,7 +3,7 @@ ghost use Rattle.std.specs.Prelude.{◌≡◌, ◌<◌, true, length as count, I
 ghost use Rattle.css_tags.specs.Groups.{plan_of};
 ghost use Rattle.css_tags.specs.Staged.{staged};
 
-use super::groups::{filled, have, kinds};
+use super::groups::{eights, filled, have, kinds};
 use super::moved;
 use crate::{Block, Channel, Group, Staged};
 use css_base::Buffer;
@@ -33,14 +33,14 @@ pub fn collected(alloc: Global, group: Group) -> Result<Staged, AllocError>
     Ok(staged)
 }
 
-// A put group of two blocks: one of 3 bytes, and one of 130 bytes in two rows, which has eights between a 1 and a 9.
+// A put group of two blocks: 1, 2, 3 in three rows, and the eights in two rows.
 fn two(alloc: Global) -> Result<Group, AllocError>
     ensures put { IfOk result (λ g. g.put ≡ true) }
     ensures two { IfOk result (λ g. count g.items ≡ 2) }
 {
     let mut placer = Placer::new(1_032_192);
     let few = filled(alloc, &mut placer, &[1, 2, 3])?;
-    let many = filled(alloc, &mut placer, &many())?;
+    let many = filled(alloc, &mut placer, &eights())?;
     let mut blocks = Vec::new(alloc);
     blocks.push((few, 1))?;
     blocks.push((many, 65))?;
@@ -48,14 +48,6 @@ fn two(alloc: Global) -> Result<Group, AllocError>
         Ok(group) => Ok(group),
         Err(_) => Err(AllocError),
     }
-}
-
-// Eights between a 1 and a 9.
-fn many() -> [u8; 130] {
-    let mut bytes = [8; 130];
-    bytes[0] = 1;
-    bytes[129] = 9;
-    bytes
 }
 
 // The buffers and the blocks of a put group.
@@ -84,8 +76,8 @@ fn put_away(rt: HostRuntime) -> Result<(), Fail> {
     let (_, pieces) = moved(two(alloc)?);
     assert_eq!(rt; pieces, 5);
     let (buffers, blocks) = parted(alloc, collected(alloc, two(alloc)?)?)?;
-    assert_eq!(rt; hold(buffers.as_slice(), &[&[1, 2, 3], &many()]), true);
-    assert_eq!(rt; have(blocks.as_slice(), &[&[1, 2, 3], &many()]), true);
+    assert_eq!(rt; hold(buffers.as_slice(), &[&[1, 2, 3], &eights()]), true);
+    assert_eq!(rt; have(blocks.as_slice(), &[&[1, 2, 3], &eights()]), true);
     Ok(())
 }
 
@@ -95,13 +87,13 @@ fn write_to_one_block(rt: HostRuntime) -> Result<(), Fail> {
     let alloc = rt.alloc();
     let mut staged = collected(alloc, two(alloc)?)?;
     assert_eq!(rt; staged.bytes(0), [1, 2, 3].as_slice());
-    assert_eq!(rt; staged.bytes(1), many().as_slice());
+    assert_eq!(rt; staged.bytes(1), eights().as_slice());
     staged.bytes_mut(0).fill(9);
     assert_eq!(rt; staged.bytes(0), [9, 9, 9].as_slice());
-    assert_eq!(rt; staged.bytes(1), many().as_slice());
+    assert_eq!(rt; staged.bytes(1), eights().as_slice());
     let (buffers, blocks) = parted(alloc, staged)?;
-    assert_eq!(rt; hold(buffers.as_slice(), &[&[1, 2, 3], &many()]), true);
-    assert_eq!(rt; have(blocks.as_slice(), &[&[9, 9, 9], &many()]), true);
+    assert_eq!(rt; hold(buffers.as_slice(), &[&[1, 2, 3], &eights()]), true);
+    assert_eq!(rt; have(blocks.as_slice(), &[&[9, 9, 9], &eights()]), true);
     Ok(())
 }
 
@@ -109,11 +101,9 @@ fn write_to_one_block(rt: HostRuntime) -> Result<(), Fail> {
 #[test]
 fn blocks_given(rt: HostRuntime) -> Result<(), Fail> {
     let alloc = rt.alloc();
-    let mut kept = [8; 130];
-    kept[129] = 9;
     let blocks = collected(alloc, kinds(alloc)?)?.into_blocks();
     assert_eq!(rt;
-        have(blocks.as_slice(), &[&[1, 2, 3], &[0; 130], &kept]),
+        have(blocks.as_slice(), &[&[1, 2, 3], &[0; 130], &eights()]),
         true
     );
     Ok(())
