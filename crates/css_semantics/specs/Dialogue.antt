@@ -1,10 +1,31 @@
 -- A program is a dialogue with a world: it asks one thing after another, and the world replies or ends the dialogue.
 use Rattle.std.specs.Prelude.{ℕ, ℤ, List, [], ◌∷◌, ◌++◌}
+use Rattle.css_base.specs.declared.direction.Direction.{Direction}
 use Rattle.css_base.specs.declared.ending.FaultKind.{FaultKind}
 use Rattle.css_base.specs.declared.ending.FaultKind.TheVariants.{OutsideMemory}
 use Rattle.css_base.specs.declared.ending.Stop.{Stop}
 use Rattle.css_base.specs.declared.ending.Stop.TheVariants as stops
 use Rattle.css_base.specs.declared.rule.Rule.{Rule}
+
+-- an object that a task is given: rows of so many bytes from a base, so far apart
+pub record Window : Type 0 where
+  pub base : ℕ
+  pub rows : ℕ
+  pub width : ℕ
+  pub stride : ℕ
+
+-- a window, and what the task does with it
+pub record Use : Type 0 where
+  pub window : Window
+  pub direction : Direction
+
+-- a call of a task: the task's number among the functions, its integer arguments, its windows in order of parameters, and main's
+-- stack place
+pub record Call : Type 0 where
+  pub function : ℕ
+  pub scalars : List ℕ
+  pub uses : List Use
+  pub stack_place : ℕ
 
 -- one thing that a program asks or does
 pub data Action : Type 0 where
@@ -20,6 +41,15 @@ pub data Action : Type 0 where
   Store : (address : ℕ) (bytes : List ℕ) → Action
   -- writes these bytes, the text of one conversion; the reply is their number
   Out : (bytes : List ℕ) → Action
+  -- calls a task while started; its body follows, and then its return
+  Calls : (call : Call) → Action
+  Returns : Action
+  -- begins to make tasks of calls, ends it, and waits for all of them
+  Start : Action
+  Finish : Action
+  Barrier : Action
+  -- waits for the object at an address
+  Wait : (address : ℕ) → Action
   -- is at fault
   Fault : (kind : FaultKind) → Action
   -- ends main with this result

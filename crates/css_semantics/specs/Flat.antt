@@ -21,7 +21,7 @@ reply_in m _ = Says 0
 
 -- the flat memory of so many bytes, before main's entry
 abbrev pub no_frames : ℕ → Memory
-no_frames size = record { end = size; stack = [] }
+no_frames size = record { globals = []; heap = []; stack = []; end = size }
 
 -- the flat world of a memory of so many bytes, with so many units
 abbrev pub flat : ℕ → ℕ → World
