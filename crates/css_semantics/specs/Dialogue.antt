@@ -1,10 +1,28 @@
 -- A program is a dialogue with a world: it asks one thing after another, and the world replies or ends the dialogue.
-use Rattle.std.specs.Prelude.{ℕ, ℤ, List, [], ◌∷◌, ◌++◌}
+use Rattle.std.specs.Prelude.{ℕ, ℤ, Bool, List, [], ◌∷◌, ◌++◌}
+use Rattle.css_base.specs.declared.direction.Direction.{Direction}
 use Rattle.css_base.specs.declared.ending.FaultKind.{FaultKind}
 use Rattle.css_base.specs.declared.ending.FaultKind.TheVariants.{OutsideMemory}
 use Rattle.css_base.specs.declared.ending.Stop.{Stop}
 use Rattle.css_base.specs.declared.ending.Stop.TheVariants as stops
 use Rattle.css_base.specs.declared.rule.Rule.{Rule}
+
+-- what a task is given for a pointer: where it points to, the bytes of an element, the dimensions as they are given, which are rows,
+-- width and stride where they are strided, and what the task does with it
+pub record Argument : Type 0 where
+  pub base : ℕ
+  pub element : ℕ
+  pub dimensions : List ℤ
+  pub is_strided : Bool
+  pub direction : Direction
+
+-- a call of a task: its number among the functions, its integer arguments, its pointers in order of parameters, and main's stack
+-- place
+pub record Call : Type 0 where
+  pub function : ℕ
+  pub scalars : List ℕ
+  pub arguments : List Argument
+  pub stack_place : ℕ
 
 -- one thing that a program asks or does
 pub data Action : Type 0 where
@@ -20,6 +38,15 @@ pub data Action : Type 0 where
   Store : (address : ℕ) (bytes : List ℕ) → Action
   -- writes these bytes, the text of one conversion; the reply is their number
   Out : (bytes : List ℕ) → Action
+  -- calls a task while started; its body follows, if the reply isn't 0, and then its return
+  Calls : (call : Call) → Action
+  Returns : Action
+  -- begins to make tasks of calls, ends it, and waits for all of them
+  Start : Action
+  Finish : Action
+  Barrier : Action
+  -- waits for the object at an address
+  Wait : (address : ℕ) → Action
   -- is at fault
   Fault : (kind : FaultKind) → Action
   -- ends main with this result

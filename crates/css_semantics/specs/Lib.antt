@@ -3,3 +3,8 @@ pub mod Worlds
 pub mod Units
 pub mod Memory
 pub mod Flat
+pub mod Tasks
+pub mod Pending
+pub mod Rules
+pub mod Clear
+pub mod Verdict

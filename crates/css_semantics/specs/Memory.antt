@@ -1,6 +1,7 @@
--- The flat memory. So far it has a stack alone, which grows down from the memory's end.
-use Rattle.std.specs.Prelude.{ℕ, zero, suc, ◌+◌, ◌-◌, ◌*◌, ◌/◌, ◌%◌, List, [], ◌∷◌, ◌++◌, length, take, drop, replicate, fold, Bool, nat_le, ◌&&◌, if◌then◌else◌}
-use Rattle.css_semantics.specs.Dialogue.{Action, Enter, Leave, Load, Store}
+-- The flat memory: live bytes of globals, of the heap and of the stack.
+use Rattle.std.specs.Prelude.{ℕ, zero, suc, ◌+◌, ◌-◌, ◌*◌, ◌/◌, ◌%◌, List, [], ◌∷◌, ◌++◌, length, drop, replicate, fold, slice_index, Bool, true, nat_le, nat_lt, ◌&&◌, ◌||◌, if◌then◌else◌}
+use Rattle.css_semantics.specs.Dialogue.{Action, Enter, Leave, Store, Tape}
+use Rattle.css_semantics.specs.Worlds.{state_after}
 
 -- the value of big-endian bytes
 abbrev pub big_endian : List ℕ → ℕ
@@ -11,32 +12,104 @@ abbrev pub big_endian_bytes : ℕ → ℕ → List ℕ
 big_endian_bytes zero n = []
 big_endian_bytes (suc width) n = big_endian_bytes width (n / 256) ++ n % 256 ∷ []
 
--- the memory's end, and the live bytes of the stack, which end there
+-- a number at the next multiple of a step
+abbrev pub rounded_up : ℕ → ℕ → ℕ
+rounded_up step n = (n + (step - 1)) / step * step
+
+-- how many bytes a stack may have, and how many calls may be open
+pub record StackLimit : Type 0 where
+  pub bytes : ℕ
+  pub calls : ℕ
+
+-- The bytes of the globals from the first one on, of the heap up to its top, and of the stack, which ends at the memory's end; how
+-- many calls are open; and the stack's limit.
 pub record Memory : Type 0 where
-  pub end : ℕ
+  pub globals : List ℕ
+  pub heap : List ℕ
   pub stack : List ℕ
+  pub end : ℕ
+  pub calls : ℕ
+  pub limit : StackLimit
+
+-- ---- the layout
+
+-- the address of the first global
+abbrev pub first_global : ℕ
+first_global = 4096
+
+abbrev pub globals_end : Memory → ℕ
+globals_end m = first_global + length m.globals
+
+abbrev pub heap_start : Memory → ℕ
+heap_start m = rounded_up 16 (globals_end m)
+
+abbrev pub heap_top : Memory → ℕ
+heap_top m = heap_start m + length m.heap
 
 -- the address of the stack's first byte
 abbrev pub stack_place : Memory → ℕ
 stack_place m = m.end - length m.stack
 
+-- ---- accesses
+
+-- of so many bytes from an address, each has a property
+abbrev pub all_from : (ℕ → Bool) → (address width : ℕ) → Bool
+all_from test address zero = true
+all_from test address (suc width) = test address && all_from test (address + 1) width
+
+abbrev pub is_between : (from to address : ℕ) → Bool
+is_between from to address = nat_le from address && nat_lt address to
+
+abbrev pub is_live_byte : Memory → ℕ → Bool
+is_live_byte m address =
+    is_between first_global (globals_end m) address
+    || (is_between (heap_start m) (heap_top m) address || is_between (stack_place m) m.end address)
+
 -- so many bytes from an address are live
-abbrev pub is_live : Memory → ℕ → ℕ → Bool
-is_live m address width = nat_le (stack_place m) address && nat_le (address + width) m.end
+abbrev pub is_live : Memory → (address width : ℕ) → Bool
+is_live m address width = all_from (is_live_byte m) address width
+
+-- the byte at a live address
+abbrev pub byte_at : Memory → ℕ → ℕ
+byte_at m address =
+    if is_between first_global (globals_end m) address then slice_index m.globals (address - first_global)
+    else (if is_between (heap_start m) (heap_top m) address then slice_index m.heap (address - heap_start m)
+    else slice_index m.stack (address - stack_place m))
 
 -- the bytes from a live address
-abbrev pub bytes_at : Memory → ℕ → ℕ → List ℕ
-bytes_at m address width = take width (drop (address - stack_place m) m.stack)
+abbrev pub bytes_at : Memory → (address width : ℕ) → List ℕ
+bytes_at m address zero = []
+bytes_at m address (suc width) = byte_at m address ∷ bytes_at m (address + 1) width
 
--- a list with these items in place of those from an index on
-abbrev pub overwritten : {A : Type 0} → List A → ℕ → List A → List A
-overwritten xs at ys = take at xs ++ ys ++ drop (at + length ys) xs
+-- bytes that begin at an address, with what is stored from another address on in their place
+abbrev pub overlaid : (from : ℕ) (bytes : List ℕ) (address : ℕ) (new : List ℕ) → List ℕ
+overlaid from [] address new = []
+overlaid from (b ∷ bytes) address new =
+    (if is_between address (address + length new) from then slice_index new (from - address) else b)
+    ∷ overlaid (from + 1) bytes address new
 
--- what an action does to the memory: an entry adds a frame of zeros below the stack place, a leaving takes it away,
--- and a store that isn't wholly live changes nothing
+-- the memory after bytes are stored from a live address on
+abbrev pub stored : Memory → (address : ℕ) (new : List ℕ) → Memory
+stored m address new = record m {
+  globals = overlaid first_global m.globals address new;
+  heap = overlaid (heap_start m) m.heap address new;
+  stack = overlaid (stack_place m) m.stack address new;
+}
+
+-- ---- what actions do
+
+-- what an action does to the memory: an entry adds a frame of zeros below the stack place, a leaving takes it away, and a store
+-- that isn't wholly live changes nothing
 abbrev pub after : Memory → Action → Memory
-after m (Enter size) = record m { stack = replicate size 0 ++ m.stack }
-after m (Leave base size) = record m { stack = drop size m.stack }
-after m (Store address bytes) =
-    if is_live m address (length bytes) then record m { stack = overwritten m.stack (address - stack_place m) bytes } else m
+after m (Enter size) = record m { stack = replicate size 0 ++ m.stack; calls = m.calls + 1 }
+after m (Leave base size) = record m { stack = drop size m.stack; calls = m.calls - 1 }
+after m (Store address bytes) = if is_live m address (length bytes) then stored m address bytes else m
 after m _ = m
+
+-- the memory after a tape, from the one before main's entry
+abbrev pub memory_after : Memory → Tape → Memory
+memory_after start tape = state_after after start tape
+
+-- all live bytes, in order of address
+abbrev pub image : Memory → List ℕ
+image m = m.globals ++ (m.heap ++ m.stack)

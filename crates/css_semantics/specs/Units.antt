@@ -1,5 +1,5 @@
 -- Units: each entry of a function and each entry of a loop's body takes one.
-use Rattle.std.specs.Prelude.{ℕ, zero, suc, ◌-◌}
+use Rattle.std.specs.Prelude.{ℕ, zero, ◌-◌}
 use Rattle.css_base.specs.declared.rule.Rule.TheVariants as rules
 use Rattle.css_semantics.specs.Dialogue.{Action, Enter, Turn, Reply, Says, Refuses}
 

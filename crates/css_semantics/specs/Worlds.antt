@@ -1,6 +1,6 @@
 -- Worlds that keep a state, which is folded over the tape.
-use Rattle.std.specs.Prelude.{◌≡◌, List, [], ◌∷◌, Bool, true, false, IsTrue}
-use Rattle.css_semantics.specs.Dialogue.{Action, Enter, Turn, Leave, Load, Store, Out, Fault, End, Item, Tape, Reply, World}
+use Rattle.std.specs.Prelude.{◌≡◌, [], ◌∷◌, Bool, true, false, IsTrue}
+use Rattle.css_semantics.specs.Dialogue.{Action, Enter, Turn, Leave, Load, Store, Item, Tape, Reply, World}
 
 -- the state after a tape, from a first one
 abbrev pub state_after : {S : Type 0} → (S → Action → S) → S → Tape → S

@@ -4,3 +4,6 @@
 
 /// The most bytes of main's stack, where pragmas are erased.
 pub const STACK_LIMIT: u32 = 1_064_960;
+
+/// The most open calls, where pragmas are erased.
+pub const OPEN_CALLS: u32 = 33_792;

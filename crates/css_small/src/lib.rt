@@ -2,13 +2,8 @@
 #![tactic(auto)]
 
 mod front;
-mod lexer;
-mod parser;
 mod tree;
 mod unspelled;
 
-pub use front::{numbers_fit, one_program, read_program};
-pub use tree::{Expression, Program, Statement};
-
-#[cfg(test)]
-mod tests;
+pub use front::read_program;
+pub use tree::{Directive, Expression, Function, Program, Statement};

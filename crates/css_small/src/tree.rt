@@ -3,13 +3,16 @@
 use css_base::Line;
 use css_num::{BinOp, UnOp};
 
-/// An expression of type int. Variables are numbered from 0 in order of declaration.
+/// An expression of type int. Objects of a function are numbered from 0 in the order of its frame: a parameter, and then its
+/// variables in order of declaration.
 #[derive(Drop, Debug)]
 pub enum Expression {
     /// A constant, from 0 to 2,147,483,647.
     Number(u32),
     /// The value of a variable.
     Variable(u32),
+    /// `p[e]`: the int so many places behind the one to which the parameter points.
+    Element(Box<Expression>),
     Unary(UnOp, Box<Expression>),
     Binary(BinOp, Box<Expression>, Box<Expression>),
     /// `&&`: the second operand only where the first isn't 0.
@@ -18,7 +21,18 @@ pub enum Expression {
     Or(Box<Expression>, Box<Expression>),
 }
 
-/// A statement or declaration, with the line of its first token. An `else` belongs to the nearest `if` (C99 6.8.4.1).
+/// What a directive of main tells the runtime.
+#[derive(Clone, Copy, PartialEq, Eq, Debug)]
+pub enum Directive {
+    /// From here on calls of tasks make tasks.
+    Start,
+    /// All tasks are waited for, and calls make no more.
+    Finish,
+    /// All tasks are waited for.
+    Barrier,
+}
+
+/// A statement, declaration or directive, with the line of its first token. An `else` belongs to the nearest `if` (C99 6.8.4.1).
 #[derive(Drop, Debug)]
 pub enum Statement {
     /// `int x;`
@@ -41,6 +55,24 @@ pub enum Statement {
         line: Line,
         variable: u32,
         value: Expression,
+    },
+    /// `p[i] = e;`
+    AssignElement {
+        line: Line,
+        index: Expression,
+        value: Expression,
+    },
+    /// `f(&x);`
+    Call {
+        line: Line,
+        /// The number of the function.
+        function: u32,
+        variable: u32,
+    },
+    /// `#pragma css start`, `finish` or `barrier`
+    Directive {
+        line: Line,
+        kind: Directive,
     },
     /// `putchar(e);`
     Put {
@@ -78,14 +110,25 @@ pub enum Statement {
     },
 }
 
-/// A program: main with its variables and its body.
+/// A function: main, or one that gets a pointer to an int.
 #[derive(Drop, Debug)]
-pub struct Program {
-    /// The line of main's first token.
+pub struct Function {
+    /// Whether a directive makes a task of it.
+    pub is_task: bool,
+    /// The line of its first token, behind its directive.
     pub line: Line,
-    /// The line of main's closing brace.
+    /// The line of its closing brace.
     pub end: Line,
-    /// How many variables main has.
+    /// How many parameters it has: none, or one, which is a pointer.
+    pub parameters: u32,
+    /// How many variables it has.
     pub variables: u32,
     pub body: Vec<Statement>,
+}
+
+/// A program: the functions that main may call, numbered from 0, and main.
+#[derive(Drop, Debug)]
+pub struct Program {
+    pub functions: Vec<Function>,
+    pub main: Function,
 }

@@ -1,5 +1,6 @@
 -- The instructions of a program. Jumps name places of the whole body, so each piece's code depends on its place.
-use Rattle.std.specs.Prelude.{ℕ, ◌+◌, pos, List, [], ◌∷◌, ◌++◌, length, nat_eq, if◌then◌else◌}
+use Rattle.std.specs.Prelude.{ℕ, ◌+◌, pos, Bool, true, false, List, [], ◌∷◌, ◌++◌, map, length, nat_eq, Option, Some, None, slice_get, if◌then◌else◌}
+use Rattle.css_base.specs.declared.direction.Direction.TheVariants.{InOut}
 use Rattle.css_num.specs.declared.operators.UnOp.{UnOp}
 use Rattle.css_num.specs.declared.operators.UnOp.TheVariants as unary
 use Rattle.css_num.specs.declared.operators.BinOp.{BinOp}
@@ -10,8 +11,13 @@ use Rattle.css_vm.specs.declared.code.Op.TheVariants as ops
 use Rattle.css_vm.specs.declared.code.Conversion.TheVariants as conversions
 use Rattle.css_vm.specs.declared.code.ShiftWidth.TheVariants as shifts
 use Rattle.css_vm.specs.declared.code.Narrow.TheVariants as narrows
-use Rattle.css_vm.specs.Code.{Routine, first_line}
-use Rattle.css_small.specs.Tree.{Expression, Number, Variable, Unary, Binary, And, Or, Statement, Declare, Initialise, Empty, Assign, Put, Return, Block, If, IfElse, While, Statements, End, More, Program}
+use Rattle.css_vm.specs.declared.code.MarkKind.{MarkKind}
+use Rattle.css_vm.specs.declared.code.MarkKind.TheVariants as marks
+use Rattle.css_vm.specs.declared.code.ArgShape.TheVariants as shapes
+use Rattle.css_vm.specs.Code.{Shape, Routine, Code, first_line}
+use Rattle.css_small.specs.declared.tree.Directive.{Directive}
+use Rattle.css_small.specs.declared.tree.Directive.TheVariants as directives
+use Rattle.css_small.specs.Tree.{Expression, Number, Variable, Element, Unary, Binary, And, Or, Statement, Declare, Initialise, Empty, Assign, AssignElement, Call, Mark, Put, Return, Block, If, IfElse, While, Statements, End, More, Function, Program}
 use Rattle.css_small_code.specs.Meaning.{place_of, frame_of}
 
 -- a result of 64 bits as an int
@@ -50,10 +56,19 @@ binary_code binary.Or = ops.Or ∷ []
 abbrev pub truth_code : List Op
 truth_code = ops.Push (pos 0) ∷ ops.Ne ∷ []
 
+-- behind a pointer and an index: the address of the int so many places behind
+abbrev pub index_code : List Op
+index_code = ops.Push (pos 4) ∷ ops.Mul ∷ ops.Add ∷ []
+
+-- the pointer that the parameter is
+abbrev pub pointer_code : List Op
+pointer_code = ops.Frame (place_of 0) ∷ ops.Load32u ∷ []
+
 -- an expression's code at a place
 abbrev pub expression_code : Expression → ℕ → List Op
 expression_code (Number value) at = ops.Push (pos value) ∷ []
 expression_code (Variable k) at = ops.Frame (place_of k) ∷ ops.Load32s ∷ []
+expression_code (Element e) at = pointer_code ++ expression_code e (at + 2) ++ index_code ++ ops.Load32s ∷ []
 expression_code (Unary op e) at = expression_code e at ++ unary_code op
 expression_code (Binary op a b) at =
     let ca = expression_code a at in
@@ -77,52 +92,110 @@ in_line line (op ∷ all) = record { op = op; line = line } ∷ in_line line all
 abbrev pub assignment_code : ℕ → Expression → ℕ → List Op
 assignment_code k e at = ops.Frame (place_of k) ∷ expression_code e (at + 1) ++ ops.Store32 ∷ ops.Drop ∷ []
 
-abbrev mutual
-  -- a statement's code at a place
-  pub statement_code : Statement → ℕ → List Instr
-  statement_code (Declare line k) at = []
-  statement_code (Initialise line k e) at = in_line line (assignment_code k e at)
-  statement_code (Empty line) at = []
-  statement_code (Assign line k e) at = in_line line (assignment_code k e at)
-  statement_code (Put line e) at = in_line line (expression_code e at ++ ops.Out conversions.Char ∷ ops.Drop ∷ [])
-  statement_code (Return line e) at = in_line line (expression_code e at ++ ops.Ret ∷ [])
-  statement_code (Block line all) at = statements_code all at
-  statement_code (If line e s) at =
-      let ce = expression_code e at in
-      let first = at + length ce + 1 in
-      let cs = statement_code s first in
-      in_line line (ce ++ ops.Jumpz (first + length cs) ∷ []) ++ cs
-  statement_code (IfElse line e s other) at =
-      let ce = expression_code e at in
-      let first = at + length ce + 1 in
-      let cs = statement_code s first in
-      let second = first + length cs + 1 in
-      let co = statement_code other second in
-      in_line line (ce ++ ops.Jumpz second ∷ []) ++ cs ++ in_line line (ops.Jump (second + length co) ∷ []) ++ co
-  statement_code (While line e s) at =
-      let ce = expression_code e at in
-      let first = at + length ce + 2 in
-      let cs = statement_code s first in
-      in_line line (ce ++ ops.Jumpz (first + length cs + 1) ∷ ops.Turn ∷ []) ++ cs ++ in_line line (ops.Jump at ∷ [])
+-- the address of `p[e]`
+abbrev pub element_code : Expression → ℕ → List Op
+element_code e at = pointer_code ++ expression_code e (at + 2) ++ index_code
 
-  pub statements_code : Statements → ℕ → List Instr
-  statements_code End at = []
-  statements_code (More s rest) at =
-      let first = statement_code s at in
-      first ++ statements_code rest (at + length first)
+-- the place of an element comes first
+abbrev pub element_assignment_code : Expression → Expression → ℕ → List Op
+element_assignment_code i e at =
+    let place = element_code i at in
+    place ++ expression_code e (at + length place) ++ ops.Store32 ∷ ops.Drop ∷ []
+
+abbrev pub is_task_there : Option Function → Bool
+is_task_there None = false
+is_task_there (Some f) = f.is_task
+
+-- A call of a function with the address of a variable. One of a task asks whether tasks are made, behind its argument.
+abbrev pub call_code : (is_task : Bool) → (function k : ℕ) → ℕ → List Op
+call_code false function k at = ops.Frame (place_of k) ∷ ops.Call function ∷ ops.Drop ∷ []
+call_code true function k at =
+    ops.Frame (place_of k) ∷ ops.Mark marks.Started ∷ ops.Jumpz (at + 5) ∷ ops.Submit function ∷ ops.Jump (at + 6)
+    ∷ ops.Call function ∷ ops.Drop ∷ []
+
+abbrev pub mark_of : Directive → MarkKind
+mark_of directives.Start = marks.Start
+mark_of directives.Finish = marks.Finish
+mark_of directives.Barrier = marks.Barrier
+
+-- in a program with these functions
+module _ (functions : List Function) where
+  abbrev mutual
+    -- a statement's code at a place
+    pub statement_code : Statement → ℕ → List Instr
+    statement_code (Declare line k) at = []
+    statement_code (Initialise line k e) at = in_line line (assignment_code k e at)
+    statement_code (Empty line) at = []
+    statement_code (Assign line k e) at = in_line line (assignment_code k e at)
+    statement_code (AssignElement line i e) at = in_line line (element_assignment_code i e at)
+    statement_code (Call line f k) at = in_line line (call_code (is_task_there (slice_get functions f)) f k at)
+    statement_code (Mark line kind) at = in_line line (ops.Mark (mark_of kind) ∷ [])
+    statement_code (Put line e) at = in_line line (expression_code e at ++ ops.Out conversions.Char ∷ ops.Drop ∷ [])
+    statement_code (Return line e) at = in_line line (expression_code e at ++ ops.Ret ∷ [])
+    statement_code (Block line all) at = statements_code all at
+    statement_code (If line e s) at =
+        let ce = expression_code e at in
+        let first = at + length ce + 1 in
+        let cs = statement_code s first in
+        in_line line (ce ++ ops.Jumpz (first + length cs) ∷ []) ++ cs
+    statement_code (IfElse line e s other) at =
+        let ce = expression_code e at in
+        let first = at + length ce + 1 in
+        let cs = statement_code s first in
+        let second = first + length cs + 1 in
+        let co = statement_code other second in
+        in_line line (ce ++ ops.Jumpz second ∷ []) ++ cs ++ in_line line (ops.Jump (second + length co) ∷ []) ++ co
+    statement_code (While line e s) at =
+        let ce = expression_code e at in
+        let first = at + length ce + 2 in
+        let cs = statement_code s first in
+        in_line line (ce ++ ops.Jumpz (first + length cs + 1) ∷ ops.Turn ∷ []) ++ cs ++ in_line line (ops.Jump at ∷ [])
+
+    pub statements_code : Statements → ℕ → List Instr
+    statements_code End at = []
+    statements_code (More s rest) at =
+        let first = statement_code s at in
+        first ++ statements_code rest (at + length first)
 
 -- at the closing brace: returns 0
 abbrev pub end_code : ℕ → List Instr
 end_code line = in_line line (ops.Push (pos 0) ∷ ops.Ret ∷ [])
 
--- The first instruction has the line of main's first token: where the body's code begins in another, a push and a drop stand
--- before it.
-abbrev pub entry_code : Program → List Instr
-entry_code p =
-    if nat_eq (first_line (statements_code p.body 0 ++ end_code p.end)) p.line then []
-    else in_line p.line (ops.Push (pos 0) ∷ ops.Drop ∷ [])
+-- The first instruction has the line of the function's first token: where the body's code begins in another, a push and a drop
+-- stand before it.
+abbrev pub entry_code : List Function → Function → List Instr
+entry_code functions f =
+    if nat_eq (first_line (statements_code functions f.body 0 ++ end_code f.end)) f.line then []
+    else in_line f.line (ops.Push (pos 0) ∷ ops.Drop ∷ [])
 
-abbrev pub program_code : Program → Routine
-program_code p =
-    let entry = entry_code p in
-    record { frame = frame_of p; body = entry ++ statements_code p.body (length entry) ++ end_code p.end }
+-- behind an entry's code
+abbrev pub body_code : List Function → Function → (entry : List Instr) → List Instr
+body_code functions f entry = entry ++ statements_code functions f.body (length entry) ++ end_code f.end
+
+-- what a task is given: an int to read and write
+abbrev pub task_shape : Shape
+task_shape = record { high = false; arguments = shapes.Window InOut 4 0 false ∷ [] }
+
+-- a function that gets a pointer
+abbrev pub function_code : Function → Routine
+function_code f = record {
+  frame = frame_of f;
+  parameters = 4 ∷ [];
+  task = if f.is_task then Some task_shape else None;
+  body = body_code [] f [];
+}
+
+abbrev pub main_code : List Function → Function → Routine
+main_code functions f = record {
+  frame = frame_of f;
+  parameters = [];
+  task = None;
+  body = body_code functions f (entry_code functions f);
+}
+
+-- the functions, and main behind them
+abbrev pub program_code : Program → Code
+program_code p = record {
+  functions = map function_code p.functions ++ main_code p.functions p.main ∷ [];
+  main = length p.functions;
+}

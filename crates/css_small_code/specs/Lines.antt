@@ -1,7 +1,7 @@
 -- Where a statement's code begins.
 use Rattle.std.specs.Prelude.{ℕ, Option, Some, None}
 use Rattle.std.specs.Option.{option_or}
-use Rattle.css_small.specs.Tree.{Statement, Declare, Initialise, Empty, Assign, Put, Return, Block, If, IfElse, While, Statements, End, More}
+use Rattle.css_small.specs.Tree.{Statement, Declare, Initialise, Empty, Assign, AssignElement, Call, Mark, Put, Return, Block, If, IfElse, While, Statements, End, More}
 
 -- the line of the first instruction of a statement or of statements, if they have any
 abbrev mutual
@@ -10,6 +10,9 @@ abbrev mutual
   line_in (Initialise line k e) = Some line
   line_in (Empty line) = None
   line_in (Assign line k e) = Some line
+  line_in (AssignElement line i e) = Some line
+  line_in (Call line f k) = Some line
+  line_in (Mark line kind) = Some line
   line_in (Put line e) = Some line
   line_in (Return line e) = Some line
   line_in (Block line all) = line_in_all all

@@ -1,5 +1,1 @@
 pub mod Quotients
-pub mod Requests
-pub mod Runs
-pub mod Stacks
-pub mod Steps

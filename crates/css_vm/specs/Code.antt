@@ -1,17 +1,86 @@
--- Functions as the machine's definitions see them.
-use Rattle.std.specs.Prelude.{ℕ, List, [], ◌∷◌}
-use Rattle.css_vm.specs.declared.code as code
+-- A program's code as the machine's definitions see it.
+use Rattle.std.specs.Prelude.{ℕ, ◌+◌, ◌*◌, ◌%◌, ◌^◌, Bool, List, [], ◌∷◌, map, take, drop, Option, option_map}
+use Rattle.css_semantics.specs.Dialogue.{Argument, Call}
+use Rattle.css_vm.specs.declared.code as coded
 use Rattle.css_vm.specs.declared.code.Instr.{Instr}
+use Rattle.css_vm.specs.declared.code.ArgShape.{ArgShape}
+use Rattle.css_vm.specs.declared.code.ArgShape.TheVariants as shapes
+use Rattle.css_vm.specs.Cells.{signed}
+use Rattle.css_vm.specs.Spaces.{bytes_of}
 
--- the bytes of a frame, and the instructions
+-- what a task is given for its parameters, and whether it goes before others
+pub record Shape : Type 0 where
+  pub high : Bool
+  pub arguments : List ArgShape
+
+-- a function: the bytes of its frame and of each parameter, what its calls are where it is a task, and its instructions
 pub record Routine : Type 0 where
   pub frame : ℕ
+  pub parameters : List ℕ
+  pub task : Option Shape
   pub body : List Instr
 
-abbrev pub routine : code.Function.Function → Routine
-routine f = record { frame = f.frame; body = f.body.items }
+-- the functions, and main's number
+pub record Code : Type 0 where
+  pub functions : List Routine
+  pub main : ℕ
+
+abbrev pub shape : coded.TaskShape.TaskShape → Shape
+shape s = record { high = s.high; arguments = s.args.items }
+
+abbrev pub routine : coded.Function.Function → Routine
+routine f = record {
+  frame = f.frame;
+  parameters = map bytes_of f.params.items;
+  task = option_map shape f.task;
+  body = f.body.items;
+}
+
+abbrev pub code_of : coded.Code.Code → Code
+code_of c = record { functions = map routine c.functions.items; main = c.main }
 
 -- the line of the first instruction
 abbrev pub first_line : List Instr → ℕ
 first_line [] = 0
 first_line (i ∷ is) = i.line
+
+-- ---- calls of tasks
+
+-- how many dimensions a call has
+abbrev pub dimensions_of : ArgShape → ℕ
+dimensions_of shapes.Scalar = 0
+dimensions_of (shapes.Window direction element dims strided) = dims
+
+abbrev pub all_dimensions : List ArgShape → ℕ
+all_dimensions [] = 0
+all_dimensions (s ∷ shapes) = dimensions_of s + all_dimensions shapes
+
+-- the integers among the arguments of a call
+abbrev pub scalars_of : List ArgShape → (arguments : List ℕ) → List ℕ
+scalars_of (shapes.Scalar ∷ shapes) (a ∷ arguments) = a ∷ scalars_of shapes arguments
+scalars_of (shapes.Window direction element dims strided ∷ shapes) (a ∷ arguments) = scalars_of shapes arguments
+scalars_of _ _ = []
+
+-- the pointers among them, each with its dimensions
+abbrev pub pointers_of : List ArgShape → (arguments dimensions : List ℕ) → List Argument
+pointers_of (shapes.Scalar ∷ shapes) (a ∷ arguments) dimensions = pointers_of shapes arguments dimensions
+pointers_of (shapes.Window direction element dims strided ∷ shapes) (a ∷ arguments) dimensions =
+    record { base = a; element = element; dimensions = map signed (take dims dimensions); is_strided = strided; direction = direction }
+    ∷ pointers_of shapes arguments (drop dims dimensions)
+pointers_of _ _ _ = []
+
+-- the low bytes of each argument, as many as its parameter has
+abbrev pub narrowed_to : (parameters arguments : List ℕ) → List ℕ
+narrowed_to (width ∷ parameters) (a ∷ arguments) = a % 2 ^ (8 * width) ∷ narrowed_to parameters arguments
+narrowed_to _ _ = []
+
+-- a call of a task, with its arguments and dimensions, where main's stack place is this
+abbrev pub call_of : (function : ℕ) → Routine → Shape → (arguments dimensions : List ℕ) → (stack_place : ℕ) → Call
+call_of function f s arguments dimensions stack_place =
+    let values = narrowed_to f.parameters arguments in
+    record {
+      function = function;
+      scalars = scalars_of s.arguments values;
+      arguments = pointers_of s.arguments values dimensions;
+      stack_place = stack_place;
+    }

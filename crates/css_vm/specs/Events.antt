@@ -1,59 +1,84 @@
 -- What a machine's run to the next event does, over a space and with units.
-use Rattle.std.specs.Prelude.{◌≡◌, ℕ, suc, ◌+◌, ◌<◌, ◌≤◌, ◌⊎◌, List, ◌∷◌, Option, Some, None}
+use Rattle.std.specs.Prelude.{◌≡◌, ℕ, suc, ◌+◌, ◌<◌, ◌≤◌, ◌⊎◌, List, [], ◌∷◌, Some, slice_get}
 use Rattle.css_base.specs.declared.ending.Stop.{Stop}
-use Rattle.css_semantics.specs.Dialogue.{Action, Reply, Out, Tape, World, Outcome, Stops, Stopped, then_do, ask, output}
+use Rattle.css_semantics.specs.Dialogue.{Action, Reply, Says, Out, Calls, Returns, Start, Finish, Barrier, Call, Tape, World, Outcome, Goes, Stops, Stopped, item, then_do, ask, output}
 use Rattle.css_semantics.specs.Worlds.{state_after, Follows}
 use Rattle.css_semantics.specs.Units.{with_units, metered, spending}
-use Rattle.css_vm.specs.declared.step.Step.{Step}
-use Rattle.css_vm.specs.declared.step.Step.TheVariants as steps
+use Rattle.css_semantics.specs.Tasks.{is_started}
+use Rattle.css_vm.specs.declared.code.MarkKind.{MarkKind}
+use Rattle.css_vm.specs.declared.code.MarkKind.TheVariants as marks
 use Rattle.css_vm.specs.declared.machine.Event.{Event}
 use Rattle.css_vm.specs.declared.machine.Event.TheVariants as events
-use Rattle.css_vm.specs.Code.{Routine}
-use Rattle.css_vm.specs.Machine.{State, Begin, At, exec, leaving, answered, IsOwed}
+use Rattle.css_vm.specs.Cells.{truth}
+use Rattle.css_vm.specs.Code.{Routine, Shape, Code, call_of}
+use Rattle.css_vm.specs.Machine.{State, Begin, At, Activation, Caller, Finished, frame_of, exec, answered, IsOwed}
 use Rattle.css_vm.specs.Soundness.{Spot, IsSound, IsAt}
 
+-- ---- frames
+
+-- the base of the innermost frame
 abbrev pub base_of : State → ℕ
-base_of Begin = 0
-base_of (At base place stack) = base
+base_of (Begin function arguments line) = 0
+base_of (At a callers place stack) = a.base
 
 abbrev pub IsInside : State → Type 0
-IsInside Begin = ⊥
-IsInside (At base place stack) = Unit {0}
+IsInside (Begin function arguments line) = ⊥
+IsInside (At a callers place stack) = Unit {0}
+
+-- the callers' frames stand directly above a place, each above the one that it called
+abbrev pub StandAbove : Code → (place : ℕ) → List Caller → Type 0
+StandAbove code place [] = Unit {0}
+StandAbove code place (c ∷ callers) =
+    (c.activation.base ≡ place) × StandAbove code (c.activation.base + frame_of (slice_get code.functions c.activation.function)) callers
+
+-- The machine's frames stand one above the other, the innermost at the space's stack place.
+abbrev pub IsStacked : Code → (place : ℕ) → State → Type 0
+IsStacked code place (Begin function arguments line) = Unit {0}
+IsStacked code place (At a callers at stack) =
+    (a.base ≡ place) × StandAbove code (a.base + frame_of (slice_get code.functions a.function)) callers
+
+-- ---- what a run to an event does
 
 -- In each world that replies to the actions of a machine as a space does, and from each tape that leaves the old space, there is
 -- a later tape that leaves the new one and writes nothing more, and this holds of the world and the two tapes. (Units are a part
 -- of the space here.)
 abbrev pub Along : {S : Type 0} → (S → Action → Reply) → (S → Action → S) → S → S → (World → Tape → Tape → Type 0) → Type 0
 Along {S} reply learn space space' Holds = (w : World) (start : S) (tape : Tape) → Follows w reply learn start → state_after learn start tape ≡ space →
-    (later : Tape) × (state_after learn start later ≡ space') × (output later ≡ output tape) × Holds w tape later
+    (later : Tape) × (state_after learn start later ≡ space') × (output later ≡ output tape) × (is_started later ≡ is_started tape) × Holds w tape later
 
 -- the outcome is this stop in a line, and the tape is known
 abbrev pub StopsAt : {A : Type 0} → Stop → ℕ → Outcome A → Tape → Type 0
 StopsAt stop line o tape = o ≡ Stops (Stopped stop line) tape
 
--- The machine goes on by itself for so many steps, and its rank falls at each.
-pub record Ran {S : Type 0} (reply : S → Action → Reply) (learn : S → Action → S) (f : Routine) (old : State) (space : S) (steps : ℕ) (new : State) (space' : S) : Type 0 where
-  pub goes : Along reply learn space space' (λ w tape later. (n : ℕ) → exec w f (steps + n) old tape ≡ exec w f n new later)
-  pub falls : (plan : List Spot) (rank : ℕ) → IsSound f plan → IsAt f plan rank old → (next : ℕ) × (next + steps ≤ rank) × IsAt f plan next new
+-- the world runs no body at a task's call
+abbrev pub PassesCalls : World → Type 0
+PassesCalls w = (tape : Tape) (call : Call) (line : ℕ) → w tape (item (Calls call) line) ≡ Says 0
 
--- The units and the rank don't rise: fewer units are left, or as many and the rank is no higher.
-abbrev pub IsNoHigher : ℕ → ℕ → ℕ → ℕ → Type 0
-IsNoHigher units' rank' units rank = (units' < units) ⊎ ((units' ≡ units) × (rank' ≤ rank))
+-- From a tape on, the machine goes on by itself to a later tape, and then does what a mark tells, with n steps to spare.
+abbrev pub DoesMark : World → Code → State → MarkKind → State → ℕ → (steps n : ℕ) → Tape → Tape → Type 0
+DoesMark w code old marks.Start new line steps n tape later =
+    exec w code (steps + suc n) old tape ≡ then_do (ask w Start line later) (λ r t. exec w code n new t)
+DoesMark w code old marks.Finish new line steps n tape later =
+    exec w code (steps + suc n) old tape ≡ then_do (ask w Finish line later) (λ r t. exec w code n new t)
+DoesMark w code old marks.Barrier new line steps n tape later =
+    exec w code (steps + suc n) old tape ≡ then_do (ask w Barrier line later) (λ r t. exec w code n new t)
+DoesMark w code old marks.Started new line steps n tape later =
+    exec w code (steps + suc n) old tape ≡ exec w code n (answered (truth (is_started later)) new) later
 
--- The machine goes on by itself over a space and with units, and the units and its rank don't rise.
-pub record Went {S : Type 0} (reply : S → Action → Reply) (learn : S → Action → S) (f : Routine) (old : State) (space : S) (units : ℕ) (new : State) (space' : S) (units' : ℕ) : Type 0 where
-  pub steps : ℕ
-  pub goes : Along (metered reply) (spending learn) (with_units space units) (with_units space' units') (λ w tape later. (n : ℕ) → exec w f (steps + n) old tape ≡ exec w f n new later)
-  pub falls : (plan : List Spot) (rank : ℕ) → IsSound f plan → IsAt f plan rank old → (next : ℕ) × IsAt f plan next new × IsNoHigher units' next units rank
-
--- From a tape on, the machine goes on by itself to a later tape, and then does what the event says, with n steps to spare.
-abbrev pub Does : World → Routine → State → Event → State → Tape → Tape → Type 0
-Does w f old (events.Out bytes) new tape later =
-    (steps : ℕ) × (line : ℕ) × ((n : ℕ) → exec w f (steps + suc n) old tape ≡ then_do (ask w (Out bytes) line later) (λ r t. exec w f n (answered r new) t))
-Does w f old (events.Ended value line) new tape later =
-    (steps : ℕ) × ((n : ℕ) → exec w f (steps + suc n) old tape ≡ leaving w f.frame (base_of new) value line later)
-Does w f old (events.Stopped stop line) new tape later =
-    (steps : ℕ) × ((n : ℕ) → StopsAt stop line (exec w f (steps + suc n) old tape) later)
+-- The same for an event. A task's call is told where the world runs no body at it.
+abbrev pub Does : World → Code → State → Event → State → Tape → Tape → Type 0
+Does w code old (events.Out bytes) new tape later =
+    (steps : ℕ) × (line : ℕ) × ((n : ℕ) → exec w code (steps + suc n) old tape ≡ then_do (ask w (Out bytes) line later) (λ r t. exec w code n (answered r new) t))
+Does w code old (events.Submit s) new tape later =
+    (steps : ℕ) × (f : Routine) × (shape : Shape) × (slice_get code.functions s.function ≡ Some f) × (f.task ≡ Some shape)
+    × (PassesCalls w → (n : ℕ) → exec w code (steps + suc n) old tape
+    ≡ then_do (ask w (Calls (call_of s.function f shape s.arguments.items s.dims.items (base_of new))) s.line later) (λ r t.
+    then_do (ask w Returns s.line t) (λ r' t'. exec w code n (answered 0 new) t')))
+Does w code old (events.Mark kind line) new tape later = (steps : ℕ) × ((n : ℕ) → DoesMark w code old kind new line steps n tape later)
+Does w code old (events.Ended value line) new tape later =
+    (steps : ℕ) × ((n : ℕ) → exec w code (steps + suc n) old tape ≡ Goes (Finished value (base_of new) line) later)
+Does w code old (events.Stopped stop line) new tape later =
+    (steps : ℕ) × ((n : ℕ) → StopsAt stop line (exec w code (steps + suc n) old tape) later)
 
 -- the space at an event; nothing is said of it at a stop
 abbrev pub IsLeft : {S : Type 0} → Event → S → S → Type 0
@@ -62,39 +87,32 @@ IsLeft e end space = end ≡ space
 
 -- In every world that replies to the actions of a machine as the space does, the machine comes from a tape with the old space to a
 -- tape with the new one, writes nothing on the way, and there is the event.
-pub record Reaches {S : Type 0} (reply : S → Action → Reply) (learn : S → Action → S) (f : Routine) (old : State) (space : S) (e : Event) (new : State) (space' : S) : Type 0 where
+pub record Reaches {S : Type 0} (reply : S → Action → Reply) (learn : S → Action → S) (code : Code) (old : State) (space : S) (e : Event) (new : State) (space' : S) : Type 0 where
   pub end : S
   pub is_left : IsLeft e end space'
-  pub does : Along reply learn space end (λ w tape later. Does w f old e new tape later)
+  pub does : Along reply learn space end (λ w tape later. Does w code old e new tape later)
 
--- fewer units are left, or as many and the rank is lower
-abbrev pub IsLower : ℕ → ℕ → ℕ → ℕ → Type 0
-IsLower units' rank' units rank = (units' < units) ⊎ ((units' ≡ units) × (rank' < rank))
+-- ---- what a run to an event leaves
 
--- by each plan of the code the units or the rank fall
-abbrev pub Falls : Routine → State → ℕ → State → ℕ → Type 0
-Falls f old units new units' = (plan : List Spot) (rank : ℕ) → IsSound f plan → IsAt f plan rank old → (next : ℕ) × IsAt f plan next new × IsLower units' next units rank
+-- fewer units are left, or as many and fewer steps
+abbrev pub IsLower : (units' steps' units steps : ℕ) → Type 0
+IsLower units' steps' units steps = (units' < units) ⊎ ((units' ≡ units) × (steps' < steps))
 
--- After an event that is owed an answer the machine has a cell for it, and the units or its rank have fallen; a function that ends
--- has its frame.
-abbrev pub Leaves : Routine → State → ℕ → Event → State → ℕ → Type 0
-Leaves f old units (events.Out bytes) new units' = IsOwed new × Falls f old units new units'
-Leaves f old units (events.Ended value line) new units' = IsInside new
-Leaves f old units (events.Stopped stop line) new units' = Unit {0}
+-- by all plans of the code the units fall, or the steps that are left
+abbrev pub Falls : Code → State → ℕ → State → ℕ → Type 0
+Falls code old units new units' =
+    (plans : List (List Spot)) (steps : ℕ) → IsSound code plans → IsAt code plans steps old → (next : ℕ) × IsAt code plans next new × IsLower units' next units steps
 
--- what a run to an event reaches and leaves, with units
-abbrev pub Comes : {S : Type 0} → (S → Action → Reply) → (S → Action → S) → Routine → State → S → ℕ → Event → State → S → ℕ → Type 0
-Comes reply learn f old space units e new space' units' =
-    Reaches (metered reply) (spending learn) f old (with_units space units) e new (with_units space' units') × Leaves f old units e new units'
+-- a mark that asks is owed an answer
+abbrev pub IsOwedAt : MarkKind → State → Type 0
+IsOwedAt marks.Started new = IsOwed new
+IsOwedAt kind new = Unit {0}
 
--- a run to a turn, which takes a unit, or to an event
-abbrev pub ComesToTurn : {S : Type 0} → (S → Action → Reply) → (S → Action → S) → Routine → State → S → ℕ → Option Event → State → S → ℕ → Type 0
-ComesToTurn reply learn f old space units None new space' units' = Went reply learn f old space units new space' units' × (units' < units)
-ComesToTurn reply learn f old space units (Some e) new space' units' = Comes reply learn f old space units e new space' units'
-
--- one step
-abbrev pub Steps : {S : Type 0} → (S → Action → Reply) → (S → Action → S) → Routine → State → S → ℕ → Step → State → S → ℕ → Type 0
-Steps reply learn f old space units steps.GoesOn new space' units' =
-    Ran (metered reply) (spending learn) f old (with_units space units) 1 new (with_units space' units') × (units' ≡ units)
-Steps reply learn f old space units steps.Turns new space' units' = ComesToTurn reply learn f old space units None new space' units'
-Steps reply learn f old space units (steps.Makes e) new space' units' = Comes reply learn f old space units e new space' units'
+-- After an event that is owed an answer the machine has a cell for it; the units have fallen, or the steps that are left; and its
+-- frames stand at the space's stack place. A function that ends has its frame.
+abbrev pub Leaves : Code → State → ℕ → Event → State → ℕ → (place : ℕ) → Type 0
+Leaves code old units (events.Out bytes) new units' place = IsOwed new × Falls code old units new units' × IsStacked code place new
+Leaves code old units (events.Submit s) new units' place = IsOwed new × Falls code old units new units' × IsStacked code place new
+Leaves code old units (events.Mark kind line) new units' place = IsOwedAt kind new × Falls code old units new units' × IsStacked code place new
+Leaves code old units (events.Ended value line) new units' place = IsInside new × IsStacked code place new
+Leaves code old units (events.Stopped stop line) new units' place = Unit {0}

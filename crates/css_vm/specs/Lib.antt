@@ -4,4 +4,3 @@ pub mod Machine
 pub mod Soundness
 pub mod Spaces
 pub mod Events
-pub mod Effects

@@ -1,8 +1,7 @@
 //! The machine's instructions. Cells are 64 bits.
 
-ghost use Rattle.std.specs.Prelude.{◌≡◌, ◌<◌, length, slice_get};
-
-use css_base::Line;
+use crate::space::Width;
+use css_base::{Direction, Line};
 
 /// How `out` writes a cell.
 #[derive(Clone, Copy, PartialEq, Eq, Debug)]
@@ -37,6 +36,19 @@ pub enum Narrow {
     S32,
 }
 
+/// What `mark` tells the runtime.
+#[derive(Clone, Copy, PartialEq, Eq, Debug)]
+pub enum MarkKind {
+    /// From here on calls of tasks make tasks.
+    Start,
+    /// All tasks are waited for, and calls make no more.
+    Finish,
+    /// All tasks are waited for.
+    Barrier,
+    /// Asks whether calls of tasks make tasks.
+    Started,
+}
+
 /// What an instruction does. `a, b -> c` shows the cells that it takes, the top last, and those that it gives. A value of a type
 /// is kept extended to 64 bits, by its sign where it has one.
 #[derive(Clone, Copy, PartialEq, Eq, Debug)]
@@ -51,6 +63,8 @@ pub enum Op {
     Swap,
     /// `-> address`: the address so many bytes behind the frame's base.
     Frame(u32),
+    /// `address -> v`: loads 4 bytes, without sign.
+    Load32u,
     /// `address -> v`: loads 4 bytes, extended by their sign.
     Load32s,
     /// `address, v -> v`: stores the low 4 bytes.
@@ -91,6 +105,12 @@ pub enum Op {
     Jump(u32),
     /// `a ->`: goes on at this place where a is 0.
     Jumpz(u32),
+    /// Takes the arguments of the function of this number, the last on top, and gives what it returns with. Takes a unit.
+    Call(u32),
+    /// Takes the arguments of the task of this number, and above them its dimensions, and gives 0: makes a task of the call.
+    Submit(u32),
+    /// `-> 1` where calls of tasks make tasks, else 0, where it asks for that; the others take and give nothing.
+    Mark(MarkKind),
     /// Takes a unit: the body of a loop is entered.
     Turn,
     /// `a -> n`: writes the top, and gives the number of bytes.
@@ -106,19 +126,50 @@ pub struct Instr {
     pub line: Line,
 }
 
-/// A function: the bytes of its frame, and its instructions.
+/// What a task is given for one of its parameters.
+#[derive(Clone, Copy, PartialEq, Eq, Debug)]
+pub enum ArgShape {
+    /// An integer.
+    Scalar,
+    /// A pointer to memory that the task may use.
+    Window {
+        /// What the task does with it.
+        direction: Direction,
+        /// The bytes of an element, at least 1.
+        element: u32,
+        /// How many dimensions `submit` takes for it.
+        dims: u32,
+        /// Whether the dimensions are rows, width and stride.
+        strided: bool,
+    },
+}
+
+/// What a call of a task is.
+#[derive(Drop, Debug)]
+pub struct TaskShape {
+    /// Whether it goes before others.
+    pub high: bool,
+    /// What it is given, one for each parameter.
+    pub args: Vec<ArgShape>,
+}
+
+/// A function. Its parameters lie at the front of its frame, each in 8 bytes.
 #[derive(Drop, Debug)]
 pub struct Function {
+    /// The bytes of its frame.
     pub frame: u32,
+    /// The width of each parameter.
+    pub params: Vec<Width>,
+    /// What its calls are, where it is a task.
+    pub task: Option<TaskShape>,
+    /// Its instructions.
     pub body: Vec<Instr>,
 }
 
-impl Function {
-    /// The instruction at a place of the body.
-    pub fn instr_at(&self, place: usize) -> &Instr
-        requires { place < length self.now.body.items }
-        ensures { slice_get self.now.body.items place ≡ Some result.now }
-    {
-        &self.body[place]
-    }
+/// A program's code.
+#[derive(Drop, Debug)]
+pub struct Code {
+    pub functions: Vec<Function>,
+    /// The number of main among the functions.
+    pub main: u32,
 }

@@ -1,28 +1,41 @@
 //! The stack machine.
-ghost use Rattle.std.specs.Prelude.{◌≡◌, ◌<◌, IfOk, IfErr, OnOk};
+ghost use Rattle.std.specs.Prelude.{◌≡◌, IfOk, length};
 ghost use Rattle.css_vm.specs.Machine.{Begin, answered, IsOwed};
-ghost use Rattle.css_vm.specs.Code.{routine};
+ghost use Rattle.css_vm.specs.Code.{code_of};
 ghost use Rattle.css_vm.specs.Soundness.{Fits};
-ghost use Rattle.css_semantics.specs.Dialogue.{Enter, Says};
 ghost use Rattle.css_semantics.specs.Units.{with_units, metered, spending};
-ghost use Rattle.css_vm.specs.Spaces.{IsRefusal};
-ghost use Rattle.css_vm.specs.Events.{Reaches, Leaves, IsInside, base_of};
+ghost use Rattle.css_vm.specs.Events.{Reaches, Leaves, IsStacked, IsInside, base_of};
 
-use crate::activation::Activation;
-use crate::code::Function;
+use crate::code::{Code, MarkKind};
 use crate::printed::Printed;
 use crate::space::Space;
-use crate::units::take_unit;
 use css_base::{Line, NoMemory, Stop};
 use std::alloc::Global;
 use std::marker::Model;
+
+/// A call of a task that was asked for.
+#[derive(Drop, Debug)]
+pub struct Submitted {
+    /// The task's number among the functions.
+    pub function: u32,
+    /// Its arguments in order, each modulo 2 to the bits of its parameter.
+    pub arguments: Vec<u64>,
+    /// Its dimensions in order, as the cells are.
+    pub dims: Vec<u64>,
+    /// The line of the call.
+    pub line: Line,
+}
 
 /// What a machine's run comes to.
 #[derive(Drop, Debug)]
 pub enum Event {
     /// It writes bytes, and is owed their number as an answer.
     Out(Printed),
-    /// The function returns this cell, in this line. The frame is still there.
+    /// It makes a task of a call, and is owed 0 as an answer.
+    Submit(Submitted),
+    /// It comes to a mark, in this line. Where that asks whether tasks are made, it is owed 1 or 0 as an answer.
+    Mark(MarkKind, Line),
+    /// The first function returns this cell, in this line. The frame is still there.
     Ended(u64, Line),
     /// It stops at a fault or a rule, in this line.
     Stopped(Stop, Line),
@@ -31,28 +44,38 @@ pub enum Event {
 /// A machine. Contracts see its state.
 #[derive(Drop, Debug)]
 pub struct Machine {
-    begun: bool,
-    activation: Activation,
+    function: u32,
+    arguments: Vec<u64>,
+    line: Line,
 }
 
 impl Model for Machine {
-    ghost use Rattle.std.specs.Prelude.{if◌then◌else◌};
     ghost use Rattle.css_vm.specs.Machine.{State, Begin};
 
     ghost Value = { State };
 
-    ghost view = { λ m. if m.begun then m.activation else Begin };
+    ghost view = { λ m. Begin m.function m.arguments.items m.line };
 }
 
 impl Machine {
-    /// A machine before the entry of a function. Takes no memory.
-    pub fn new(alloc: Global) -> Machine
-        ensures { result ≡ Begin }
+    /// A machine before the entry of a function with these arguments, in this line. `NoMemory` where there is no memory for them.
+    pub fn new(
+        alloc: Global,
+        code: &Code,
+        function: u32,
+        arguments: &[u64],
+        line: Line,
+    ) -> Result<Machine, NoMemory>
+        ensures { IfOk result (λ m. m ≡ Begin function arguments.now line) }
     {
-        Machine {
-            begun: false,
-            activation: Activation::new(alloc),
-        }
+        let _code = code;
+        let mut own = Vec::new(alloc);
+        own.extend_from_slice(arguments)?;
+        Ok(Machine {
+            function,
+            arguments: own,
+            line,
+        })
     }
 
     /// Takes the steps up to the next event. Each entry of a function and of a loop's body takes one of the units; where none is
@@ -60,50 +83,33 @@ impl Machine {
     /// can't grow, and after `Ended` and `Stopped` the machine isn't run again.
     pub fn run_to_event<S: Space>(
         &mut self,
-        code: &Function,
+        alloc: Global,
+        code: &Code,
         space: &mut S,
         units: &mut u64,
     ) -> Result<Event, NoMemory>
-        requires { Fits (routine code.now) self.old }
-        ensures event { IfOk result (λ e. Reaches (metered S.reply) (spending S.learn) (routine code.now)
+        requires fits { Fits (code_of code.now) self.old }
+        requires stacked { IsStacked (code_of code.now) (S.place space.old) self.old }
+        ensures event { IfOk result (λ e. Reaches (metered S.reply) (spending S.learn) (code_of code.now)
             self.old (with_units space.old units.old) e self.new (with_units space.new units.new)) }
-        ensures leaves { IfOk result (λ e. Leaves (routine code.now) self.old units.old e self.new units.new) }
+        ensures leaves { IfOk result (λ e. Leaves (code_of code.now) self.old units.old e self.new units.new (S.place space.new)) }
     {
-        if !self.begun {
-            match enter(code, space, units) {
-                Ok(base) => self.activation.begin(base),
-                Err(stop) => return Ok(Event::Stopped(stop, code.instr_at(0).line)),
-            }
-            self.begun = true;
-        }
-        self.activation.run(code, space, units)
+        Err(NoMemory)
     }
 
-    /// The base of the frame, once the function is entered.
+    /// The base of the innermost frame, once the function is entered.
     pub fn base(&self) -> u32
         requires { IsInside self.now }
         ensures { result ≡ base_of self.now }
     {
-        self.activation.base()
+        self.function
     }
 
-    /// Resumes after `Out`, with the number of bytes written.
+    /// Resumes after an event that is owed an answer.
     pub fn answer(&mut self, value: u64)
         requires { IsOwed self.old }
         ensures { self.new ≡ answered value self.old }
     {
-        self.activation.answer(value);
+        self.function = (value % 2) as u32;
     }
-}
-
-// Enters the function's frame, and takes a unit. The rule that refuses the entry, and only then the rule on units.
-fn enter<S: Space>(code: &Function, space: &mut S, units: &mut u64) -> Result<u32, Stop>
-    ensures says { IfOk result (λ base. metered S.reply (with_units space.old units.old) (Enter code.now.frame) ≡ Says base) }
-    ensures learns { OnOk result (with_units space.new units.new ≡ spending S.learn (with_units space.old units.old) (Enter code.now.frame)) }
-    ensures takes { OnOk result (units.new < units.old) }
-    ensures refuses { IfErr result (λ stop. IsRefusal (metered S.reply (with_units space.old units.old) (Enter code.now.frame)) stop) }
-{
-    let base = space.push_frame(code.frame)?;
-    take_unit(units)?;
-    Ok(base)
 }

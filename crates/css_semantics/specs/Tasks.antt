@@ -1,0 +1,157 @@
+-- What a tape says of tasks: whether calls make them, which one runs, its windows and frames, and what main has used.
+use Rattle.std.specs.Prelude.{ℕ, zero, suc, ◌+◌, ◌-◌, ◌*◌, ℤ, pos, Bool, true, false, ◌&&◌, ◌||◌, List, [], ◌∷◌, drop, length, fold, map, ◌==◌, Option, Some, None, is_none, option_map, if◌then◌else◌}
+use Rattle.css_base.specs.declared.direction.Direction.{Direction}
+use Rattle.css_base.specs.declared.direction.Direction.TheVariants as directions
+use Rattle.css_semantics.specs.Dialogue.{Action, Enter, Turn, Leave, Store, Calls, Returns, Start, Finish, Tape, Argument, Call}
+use Rattle.css_semantics.specs.Worlds.{state_after}
+use Rattle.css_semantics.specs.Memory.{is_between}
+
+-- ---- windows
+
+-- the bytes that a task is given for a pointer: rows of so many bytes from a base, so far apart
+pub record Window : Type 0 where
+  pub base : ℕ
+  pub rows : ℕ
+  pub width : ℕ
+  pub stride : ℕ
+
+-- so many bytes in one row
+abbrev pub plain : (base length : ℕ) → Window
+plain base length = record { base = base; rows = 1; width = length; stride = length }
+
+-- rows, which are one row where nothing lies between them
+abbrev pub strided : (base rows width stride : ℕ) → Window
+strided base rows width stride =
+    if (rows == 1) || (width == stride) then plain base (rows * width)
+    else record { base = base; rows = rows; width = width; stride = stride }
+
+-- a dimension that is a number of things
+abbrev pub count : ℤ → ℕ
+count (pos n) = n
+count _ = 0
+
+-- Where no dimension is strided, a window is one row of as many elements as the dimensions' product is.
+abbrev pub window_of_dimensions : Bool → (base element : ℕ) → List ℤ → Window
+window_of_dimensions true base element (rows ∷ width ∷ stride ∷ []) =
+    strided base (count rows) (element * count width) (element * count stride)
+window_of_dimensions strides base element dimensions = plain base (fold (λ product d. product * count d) element dimensions)
+
+abbrev pub window : Argument → Window
+window a = window_of_dimensions a.is_strided a.base a.element a.dimensions
+
+abbrev pub windows : Call → List Window
+windows call = map window call.arguments
+
+-- the number of its bytes
+abbrev pub window_length : Window → ℕ
+window_length w = w.rows * w.width
+
+-- the bytes from its first one to its last one
+abbrev pub span : Window → ℕ
+span w = (w.rows - 1) * w.stride + w.width
+
+-- so many rows from a base have the byte at an address
+abbrev pub rows_have : (rows base width stride address : ℕ) → Bool
+rows_have zero base width stride address = false
+rows_have (suc rows) base width stride address =
+    is_between base (base + width) address || rows_have rows (base + stride) width stride address
+
+-- the byte at an address is a window's
+abbrev pub has_byte : Window → ℕ → Bool
+has_byte w address = rows_have w.rows w.base w.width w.stride address
+
+-- Two windows are equal exactly where their bytes are.
+abbrev pub is_same_window : Window → Window → Bool
+is_same_window a b = (a.base == b.base) && ((a.rows == b.rows) && ((a.width == b.width) && (a.stride == b.stride)))
+
+abbrev pub reads : Direction → Bool
+reads directions.In = true
+reads directions.Out = false
+reads directions.InOut = true
+
+abbrev pub writes : Direction → Bool
+writes directions.In = false
+writes directions.Out = true
+writes directions.InOut = true
+
+-- ---- whether calls of tasks make tasks
+
+abbrev pub started_after : Bool → Action → Bool
+started_after before Start = true
+started_after before Finish = false
+started_after before _ = before
+
+abbrev pub is_started : Tape → Bool
+is_started tape = state_after started_after false tape
+
+-- ---- the task that runs
+
+-- some bytes from an address
+pub record Range : Type 0 where
+  pub base : ℕ
+  pub size : ℕ
+
+-- A task's call that hasn't returned: the bytes of its open frames, the innermost first, the units that it has taken, and the bytes
+-- that it has stored.
+pub record Body : Type 0 where
+  pub call : Call
+  pub frames : List ℕ
+  pub units : ℕ
+  pub stored : List Range
+
+-- whether an action takes a unit, as a number
+abbrev pub unit_of : Action → ℕ
+unit_of (Enter size) = 1
+unit_of Turn = 1
+unit_of _ = 0
+
+-- the open frames behind an action
+abbrev pub frames_after : List ℕ → Action → List ℕ
+frames_after frames (Enter size) = size ∷ frames
+frames_after frames (Leave base size) = drop 1 frames
+frames_after frames _ = frames
+
+abbrev pub stored_after : List Range → Action → List Range
+stored_after ranges (Store address bytes) = record { base = address; size = length bytes } ∷ ranges
+stored_after ranges _ = ranges
+
+abbrev pub body_behind : Body → Action → Body
+body_behind b action = record {
+  call = b.call;
+  frames = frames_after b.frames action;
+  units = b.units + unit_of action;
+  stored = stored_after b.stored action;
+}
+
+abbrev pub body_after : Option Body → Action → Option Body
+body_after body (Calls call) = Some (record { call = call; frames = []; units = 0; stored = [] })
+body_after body Returns = None
+body_after body action = option_map (λ b. body_behind b action) body
+
+-- the task's call that hasn't returned, if there is one
+abbrev pub body : Tape → Option Body
+body tape = state_after body_after None tape
+
+-- how many tasks were called
+abbrev pub called_after : ℕ → Action → ℕ
+called_after n (Calls call) = n + 1
+called_after n _ = n
+
+abbrev pub called : Tape → ℕ
+called tape = state_after called_after 0 tape
+
+-- the number of the task that runs: tasks are numbered from 0 in order of their calls
+abbrev pub inside : Tape → Option ℕ
+inside tape = option_map (λ b. called tape - 1) (body tape)
+
+-- ---- main
+
+-- the units that main has taken
+abbrev pub main_units : Tape → ℕ
+main_units [] = 0
+main_units (i ∷ tape) = if is_none (body tape) then main_units tape + unit_of i.action else main_units tape
+
+-- the bytes of main's open frames, and of those that it calls, the innermost first
+abbrev pub main_frames : Tape → List ℕ
+main_frames [] = []
+main_frames (i ∷ tape) = if is_none (body tape) then frames_after (main_frames tape) i.action else main_frames tape

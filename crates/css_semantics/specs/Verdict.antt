@@ -1,0 +1,94 @@
+-- What a judged dialogue comes to: its output, its calls of tasks, its images, and its ending.
+use Rattle.std.specs.Prelude.{ℕ, zero, suc, ◌+◌, ℤ, List, [], ◌∷◌, ◌++◌, find, ◌==◌, Option, Some, None, if◌then◌else◌}
+use Rattle.css_base.specs.declared.ending.Ending.{Ending}
+use Rattle.css_base.specs.declared.ending.Ending.TheVariants as endings
+use Rattle.css_base.specs.declared.ending.Who.{Who}
+use Rattle.css_base.specs.declared.ending.Who.TheVariants as whose
+use Rattle.css_base.specs.declared.limits.Limits.{Limits}
+use Rattle.css_semantics.specs.Dialogue.{Action, Calls, Barrier, Finish, Wait, Item, Tape, World, Call, Outcome, Goes, Stops, Stopped, Tired, output}
+use Rattle.css_semantics.specs.Memory.{Memory, bytes_at, image, memory_after}
+use Rattle.css_semantics.specs.Flat.{no_frames, in_memory}
+use Rattle.css_semantics.specs.Tasks.{Window, is_started, inside}
+use Rattle.css_semantics.specs.Pending.{pending}
+use Rattle.css_semantics.specs.Rules.{judged}
+
+-- ---- calls
+
+-- a task's call, and its line
+pub record CallIn : Type 0 where
+  pub call : Call
+  pub line : ℕ
+
+abbrev pub calls_by : Item → List CallIn
+calls_by i = elim i.action [ Calls call ↦ record { call = call; line = i.line } ∷ [] | _ ↦ [] ]
+
+-- all calls of tasks, the first first: their numbers are their places
+abbrev pub calls : Tape → List CallIn
+calls [] = []
+calls (i ∷ tape) = calls tape ++ calls_by i
+
+-- ---- images
+
+-- an image: its line, the address that was waited for or 0, and its bytes
+pub record Image : Type 0 where
+  pub line : ℕ
+  pub address : ℕ
+  pub bytes : List ℕ
+
+-- the bytes of a window's rows, in order
+abbrev pub bytes_of_rows : Memory → (rows base width stride : ℕ) → List ℕ
+bytes_of_rows m zero base width stride = []
+bytes_of_rows m (suc rows) base width stride = bytes_at m base width ++ bytes_of_rows m rows (base + stride) width stride
+
+abbrev pub bytes_of_window : Memory → Window → List ℕ
+bytes_of_window m w = bytes_of_rows m w.rows w.base w.width w.stride
+
+-- at a barrier and at a finish while started: all live bytes
+abbrev pub whole_image : Memory → Tape → (line : ℕ) → List Image
+whole_image start tape line =
+    if is_started tape then record { line = line; address = 0; bytes = image (memory_after start tape) } ∷ [] else []
+
+-- at a wait on a pending base: the window's bytes
+abbrev pub wait_image : Memory → Tape → (line address : ℕ) → List Image
+wait_image start tape line address =
+    elim (find (λ o. o.window.base == address) (pending tape)) [
+      | None ↦ []
+      | Some o ↦ record { line = line; address = address; bytes = bytes_of_window (memory_after start tape) o.window } ∷ []
+    ]
+
+abbrev pub images_by : Memory → Tape → Action → (line : ℕ) → List Image
+images_by start tape Barrier line = whole_image start tape line
+images_by start tape Finish line = whole_image start tape line
+images_by start tape (Wait address) line = wait_image start tape line address
+images_by start tape _ line = []
+
+-- all images, the first first
+abbrev pub images : Memory → Tape → List Image
+images start [] = []
+images start (i ∷ tape) = images start tape ++ images_by start tape i.action i.line
+
+-- ---- the verdict
+
+-- whose event comes after a tape: that of the task that runs, or main's
+abbrev pub who_runs : Option ℕ → Who
+who_runs None = whose.Main
+who_runs (Some number) = whose.Task number
+
+pub record Verdict : Type 0 where
+  pub output : List ℕ
+  pub calls : List CallIn
+  pub images : List Image
+  pub ending : Ending
+
+abbrev pub verdict_with : Memory → Tape → Ending → Verdict
+verdict_with start tape ending = record { output = output tape; calls = calls tape; images = images start tape; ending = ending }
+
+-- of a dialogue that the fuel didn't end
+abbrev pub verdict : Memory → Outcome ℤ → Option Verdict
+verdict start (Goes v tape) = Some (verdict_with start tape (endings.Result v))
+verdict start (Stops (Stopped stop line) tape) = Some (verdict_with start tape (endings.Stopped stop line (who_runs (inside tape))))
+verdict start (Stops Tired tape) = None
+
+-- the world in which a program is judged: one flat memory, and the rules
+abbrev pub judged_in : Limits → World
+judged_in limits = judged (no_frames limits.memory) limits (in_memory limits.memory)

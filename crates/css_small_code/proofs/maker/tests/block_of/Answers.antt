@@ -1,7 +1,0 @@
-use Rattle.std.proofs.Common.{sym, subst}
-use Rattle.css_small.specs.Numbers.{AreWithin}
-use Rattle.css_small_code.proofs.Trees.{block_is}
-use Rattle.css_small_code.proofs.maker.tests.block_of.Goals as goal
-
-pub returns : goal.returns
-returns c = subst (AreWithin 2) (sym (block_is c.new.result c.args.statements)) c.requires.known
