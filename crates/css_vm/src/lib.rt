@@ -1,11 +1,15 @@
 //! The stack machine: its instructions and its runs.
 #![tactic(auto)]
 
+mod activations;
 mod cells;
 mod code;
 mod machine;
+mod operations;
 mod printed;
 mod space;
+mod stack;
+mod units;
 
 pub use code::{
     ArgShape, Code, Conversion, Function, Instr, MarkKind, Narrow, Op, ShiftWidth, TaskShape,
