@@ -1,3 +1,5 @@
 pub mod Quotients
 pub mod Requests
 pub mod Stacks
+pub mod Steps
+pub mod Runs

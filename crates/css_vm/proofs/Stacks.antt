@@ -1,9 +1,10 @@
 -- Cells with the top at the end; read from the top down, those from a floor on are an activation's stack.
-use Rattle.std.proofs.Common.{◌≡◌, ℕ, ◌+◌, ◌-◌, ◌<◌, ◌≤◌, List, [], ◌∷◌, ◌++◌, length, get_or, take, drop, set, reverse, refl, ap, sym, ◌∙◌, arith}
+use Rattle.std.proofs.Common.{◌≡◌, ℕ, suc, ◌+◌, ◌-◌, ◌<◌, ◌≤◌, List, [], ◌∷◌, ◌++◌, length, get_or, take, drop, set, reverse, refl, ap, sym, ◌∙◌, arith}
 use Rattle.std.specs.List.{swap}
 use Rattle.std.proofs.lemmas.List.{reverse-append, take_all, take_more, take_more_set, length-set, length-reverse, length-take-le, length-drop, drop-append-le, take-set-le}
 use Rattle.std.proofs.lemmas.List.Edits.{swap_is}
-use Rattle.css_vm.specs.Stacks.{Parted, parted}
+use Rattle.css_vm.specs.declared.activations.Saved.{Saved}
+use Rattle.css_vm.specs.Stacks.{Parted, parted, callers_of, StandWithin}
 
 -- a cell more on top
 own_more : (floor : ℕ) (front : List ℕ) (cell : ℕ) → floor ≤ length front → reverse (drop floor (front ++ cell ∷ [])) ≡ cell ∷ reverse (drop floor front)
@@ -66,3 +67,12 @@ own_length floor cells seen view = ap (λ (p : Parted). length p.own) (sym view)
 pub first_below : (stack : List ℕ) (top : ℕ) (rest : List ℕ) → stack ≡ top ∷ rest → 2 ≤ length stack → (cell : ℕ) × (others : List ℕ) × (rest ≡ cell ∷ others)
 first_below stack top [] e two = absurd (omega (arith, ap length e))
 first_below stack top (cell ∷ others) e two = (cell, others, refl)
+
+-- as many callers as are saved
+pub callers_count : (saved : List Saved) (cells : List ℕ) → length (callers_of saved cells) ≡ length saved
+callers_count [] cells = refl
+callers_count (s ∷ saved) cells = ap suc (callers_count saved (take s.floor cells))
+
+pub within_more : (saved : List Saved) (few many : ℕ) → few ≤ many → StandWithin saved few → StandWithin saved many
+within_more [] few many le within = tt
+within_more (s ∷ saved) few many le within = (omega (arith, within.0), within.1)

@@ -6,3 +6,5 @@ pub mod Spaces
 pub mod Events
 pub mod Stacks
 pub mod Effects
+pub mod States
+pub mod Steps

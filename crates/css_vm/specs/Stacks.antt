@@ -1,5 +1,5 @@
 -- The cells of all activations that are open: each activation's stand above its caller's.
-use Rattle.std.specs.Prelude.{ℕ, Bool, false, List, [], ◌∷◌, take, drop, reverse}
+use Rattle.std.specs.Prelude.{ℕ, ◌≤◌, Bool, false, List, [], ◌∷◌, take, drop, reverse}
 use Rattle.css_vm.specs.declared.activations.Saved.{Saved}
 use Rattle.css_vm.specs.Machine.{Activation, Caller}
 
@@ -22,3 +22,8 @@ callers_of [] cells = []
 callers_of (s ∷ saved) cells =
     let parts = parted s.floor cells in
     record { activation = running s.function s.base; place = s.place; stack = parts.own } ∷ callers_of saved parts.below
+
+-- each caller's cells begin within those that stand below its callee's
+abbrev pub StandWithin : List Saved → (cells : ℕ) → Type 0
+StandWithin [] cells = Unit {0}
+StandWithin (s ∷ saved) cells = (s.floor ≤ cells) × StandWithin saved s.floor

@@ -4,11 +4,15 @@
 mod activations;
 mod cells;
 mod code;
+mod entry;
 mod machine;
 mod operations;
 mod printed;
+mod rounds;
 mod space;
 mod stack;
+mod step;
+mod submission;
 mod units;
 
 pub use code::{

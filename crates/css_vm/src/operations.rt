@@ -54,7 +54,7 @@ pub(crate) fn perform<S: Space>(
     requires finds { needs no_functions op ≤ length stack.old.own }
     ensures performs { OnOk result ((units : ℕ) → Performs (metered S.reply) (spending S.learn) op base stack.old.own (with_units space.old units) stack.new.own (with_units space.new units)) }
     ensures halts { (stop : Stop) → result ≡ Err (Failure.Stop stop) → (units : ℕ) → Halts (metered S.reply) (spending S.learn) op base stack.old.own (with_units space.old units) stop }
-    ensures place { OnOk result (S.place space.new ≡ S.place space.old) }
+    ensures place { S.place space.new ≡ S.place space.old }
     ensures kept { stack.new.below ≡ stack.old.below }
 {
     match op {
@@ -73,7 +73,7 @@ fn load<S: Space>(to: Narrow, stack: &mut Stack, space: &mut S) -> Result<(), St
     requires { 0 < length stack.old.own }
     ensures performs { OnOk result ((op : Op) → Narrows op to → (base units : ℕ) → Performs (metered S.reply) (spending S.learn) op base stack.old.own (with_units space.old units) stack.new.own (with_units space.new units)) }
     ensures halts { IfErr result (λ stop. (op : Op) → Narrows op to → (base units : ℕ) → Halts (metered S.reply) (spending S.learn) op base stack.old.own (with_units space.old units) stop) }
-    ensures place { OnOk result (S.place space.new ≡ S.place space.old) }
+    ensures place { S.place space.new ≡ S.place space.old }
     ensures kept { stack.new.below ≡ stack.old.below }
 {
     let address = (stack.top() % 0x1_0000_0000) as u32;
@@ -88,7 +88,7 @@ fn store<S: Space>(stack: &mut Stack, space: &mut S) -> Result<(), Stop>
     requires { 2 ≤ length stack.old.own }
     ensures performs { OnOk result ((base units : ℕ) → Performs (metered S.reply) (spending S.learn) Op.Store32 base stack.old.own (with_units space.old units) stack.new.own (with_units space.new units)) }
     ensures halts { IfErr result (λ stop. (base units : ℕ) → Halts (metered S.reply) (spending S.learn) Op.Store32 base stack.old.own (with_units space.old units) stop) }
-    ensures place { OnOk result (S.place space.new ≡ S.place space.old) }
+    ensures place { S.place space.new ≡ S.place space.old }
     ensures kept { stack.new.below ≡ stack.old.below }
 {
     let value = stack.pop();
