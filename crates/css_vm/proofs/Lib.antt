@@ -3,3 +3,4 @@ pub mod Requests
 pub mod Stacks
 pub mod Steps
 pub mod Runs
+pub mod Entries

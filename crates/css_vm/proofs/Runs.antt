@@ -18,7 +18,9 @@ use Rattle.css_vm.specs.Soundness.{Spot, IsSoundBody, IsSound, IsSpot, IsAt, Fit
 use Rattle.css_vm.specs.Events.{IsLower, IsStacked, Does, DoesMark, Reaches, Falls, Leaves}
 use Rattle.css_vm.specs.Stacks.{running}
 use Rattle.css_vm.specs.States.{depth}
-use Rattle.css_vm.specs.Steps.{IsPlaced, IsNoHigher, RanInside, Pauses, Went, Comes, ComesToPause, ComesRound, ComesToEntry}
+use Rattle.css_vm.proofs.Requests.{along_map, along_then}
+use Rattle.css_vm.proofs.Steps.{on_none, on_then}
+use Rattle.css_vm.specs.Steps.{IsPlaced, IsNoHigher, ComesOn, ComesToStop, RanInside, Pauses, Went, Comes, ComesToPause, ComesRound, ComesToEntry}
 
 -- ---- the plan of the function that runs
 
@@ -115,24 +117,14 @@ module _ {S : Type 0} (reply : S → Action → Reply) (learn : S → Action →
   pub went_none : (s : State) (space : S) (units : ℕ) → Went reply learn code s space units s space units
   went_none s space units = record {
     steps = 0;
-    goes = λ w start tape follows at. (tape, at, refl, refl, λ n. rw zero-add);
+    goes = on_none (metered reply) (spending learn) code s (with_units space units);
     falls = λ plans left sound here. (left, here, no_higher units left);
   }
 
   pub went_then : {old mid new : State} {space here later : S} {a b c : ℕ} → Went reply learn code old space a mid here b → Went reply learn code mid here b new later c → Went reply learn code old space a new later c
-  went_then {a = a} {b = b} {c = c} went more = record {
+  went_then {old} {mid} {new} {a = a} {b = b} {c = c} went more = record {
     steps = went.steps + more.steps;
-    goes = λ w start tape follows at.
-        let one = went.goes w start tape follows at in
-        let two = more.goes w start one.0 follows one.1 in (
-          two.0,
-          two.1,
-          two.2 ∙ one.2,
-          two.3 ∙ one.3,
-          λ k.
-              let both : went.steps + more.steps + k ≡ went.steps + (more.steps + k) = omega arith in
-              rw both (one.4 (more.steps + k) ∙ two.4 k),
-        );
+    goes = on_then (metered reply) (spending learn) code old mid new went.steps more.steps went.goes more.goes;
     falls = λ plans left sound at.
         let one = went.falls plans left sound at in
         let two = more.falls plans one.0 sound one.1 in
@@ -167,10 +159,8 @@ module _ {S : Type 0} (reply : S → Action → Reply) (learn : S → Action →
       record {
         end = comes.0.end;
         is_left = comes.0.is_left;
-        does = λ w start tape follows at.
-            let one = went.goes w start tape follows at in
-            let two = comes.0.does w start one.0 follows one.1 in
-            (two.0, two.1, two.2 ∙ one.2, two.3 ∙ one.3, does_later w code old mid new tape one.0 two.0 went.steps e one.4 two.4);
+        does = along_then (metered reply) (spending learn) (ComesOn code old went.steps mid) (λ w tape later. Does w code mid e new tape later) (λ w tape later. Does w code old e new tape later)
+            (λ w tape here there one two. does_later w code old mid new tape here there went.steps e one two) went.goes comes.0.does;
       },
       leaves_then e comes.1,
     )
@@ -210,9 +200,9 @@ module _ {S : Type 0} (reply : S → Action → Reply) (learn : S → Action →
           record {
             end = stopped.0;
             is_left = tt;
-            does = λ w start tape follows here.
-                let there = stopped.2 w start tape follows here in
-                (there.0, there.1, there.2, there.3, (stopped.1, there.4));
+            does = along_map (metered reply) (spending learn) (ComesToStop code (At (running function base) callers at stack) stopped.1 stop line)
+                (λ w tape later. Does w code (At (running function base) callers at stack) (events.Stopped stop line) (At (running function base) callers at' stack') tape later)
+                (λ w tape later stops. (stopped.1, stops)) stopped.2;
           },
           tt,
         )

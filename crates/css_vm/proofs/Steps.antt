@@ -14,8 +14,8 @@ use Rattle.css_vm.specs.Soundness.{Spot, Stays, Leads, GoesOn, IsFine, IsSoundBo
 use Rattle.css_vm.specs.Events.{Along, StopsAt}
 use Rattle.css_vm.specs.Effects.{goes_on, no_functions, Performs, Halts}
 use Rattle.css_vm.specs.Stacks.{running}
-use Rattle.css_vm.specs.Steps.{is_pause, IsPlaced, HasInstr, RanInside, StopsInside, Pauses}
-use Rattle.css_vm.proofs.Requests.{along_map, along_none}
+use Rattle.css_vm.specs.Steps.{is_pause, IsPlaced, HasInstr, ComesOn, ComesToStop, RanInside, StopsInside, Pauses}
+use Rattle.css_vm.proofs.Requests.{along_map, along_then, along_none}
 
 pub then_assoc : {A B C : Type 0} (o : Outcome A) (f : A → Tape → Outcome B) (g : B → Tape → Outcome C) → then_do (then_do o f) g ≡ then_do o (λ a t. then_do (f a t) g)
 then_assoc (Goes a t) f g = refl
@@ -72,6 +72,45 @@ exec_step code f i a callers place is at stack w n tape =
     ap (λ o. then_do (on_function o tape (λ g. at_instr w code (slice_get g.body place) a callers place stack tape)) (go_on (exec w code n))) is
     ∙ ap (λ o. then_do (at_instr w code o a callers place stack tape) (go_on (exec w code n))) at
 
+module _ {S : Type 0} (reply : S → Action → Reply) (learn : S → Action → S) (code : Code) where
+  pub on_none : (s : State) (space : S) → Along reply learn space space (ComesOn code s 0 s)
+  on_none s space = along_none reply learn space (ComesOn code s 0 s) (λ w tape n. rw zero-add)
+
+  -- steps behind steps
+  pub on_then : {space mid space' : S} (old here new : State) (m n : ℕ) → Along reply learn space mid (ComesOn code old m here) → Along reply learn mid space' (ComesOn code here n new) → Along reply learn space space' (ComesOn code old (m + n) new)
+  on_then old here new m n along more =
+      along_then reply learn (ComesOn code old m here) (ComesOn code here n new) (ComesOn code old (m + n) new)
+      (λ w tape at later one two k.
+      let both : m + n + k ≡ m + (n + k) = omega arith in
+      rw both (one (n + k) ∙ two k))
+      along more
+
+  pub on_stops : {space mid space' : S} (old here : State) (m n : ℕ) (stop : Stop) (line : ℕ) → Along reply learn space mid (ComesOn code old m here) → Along reply learn mid space' (ComesToStop code here n stop line) → Along reply learn space space' (ComesToStop code old (m + n) stop line)
+  on_stops old here m n stop line along more =
+      along_then reply learn (ComesOn code old m here) (ComesToStop code here n stop line) (ComesToStop code old (m + n) stop line)
+      (λ w tape at later one two k.
+      let both : m + n + suc k ≡ m + (n + suc k) = omega arith in
+      rw both (one (n + suc k) ∙ two k))
+      along more
+
+  module _ (f : Routine) (i : Instr) (a : Activation) (callers : List Caller) (place : ℕ) (is : slice_get code.functions a.function ≡ Some f) (at : slice_get f.body place ≡ Some i) (stack : List ℕ) where
+    -- one step, by the instruction's effect
+    pub step_on : {space space' : S} (new : State) → Along reply learn space space' (λ w tape later. effect w code a callers i.line place i.op stack tape ≡ Goes (On new) later) → Along reply learn space space' (ComesOn code (At a callers place stack) 1 new)
+    step_on new does =
+        along_map reply learn (λ w tape later. effect w code a callers i.line place i.op stack tape ≡ Goes (On new) later) (ComesOn code (At a callers place stack) 1 new)
+        (λ w tape later e n.
+        let one : 1 + n ≡ suc n = omega arith in
+        rw one (exec_step code f i a callers place is at stack w n tape ∙ ap (λ o. then_do o (go_on (exec w code n))) e))
+        does
+
+    pub step_stops : {space space' : S} (stop : Stop) (line : ℕ) → Along reply learn space space' (λ w tape later. StopsAt stop line (effect w code a callers i.line place i.op stack tape) later) → Along reply learn space space' (ComesToStop code (At a callers place stack) 0 stop line)
+    step_stops stop line stops =
+        along_map reply learn (λ w tape later. StopsAt stop line (effect w code a callers i.line place i.op stack tape) later) (ComesToStop code (At a callers place stack) 0 stop line)
+        (λ w tape later there n.
+        rw (zero-add, exec_step code f i a callers place is at stack w n tape)
+        (ap (λ o. then_do o (go_on (exec w code n))) there))
+        stops
+
 module _ (f : Routine) (i : Instr) (base place : ℕ) (at : slice_get f.body place ≡ Some i) where
   -- where the plan leads on, the rank falls
   lower_at : (old : List ℕ) (to : ℕ) (new : List ℕ) → ((code : Code) (plan : List Spot) (spot : Spot) → spot.height ≡ length old → IsFine code plan place spot i.op → Leads plan to spot (length new))
@@ -86,11 +125,7 @@ module _ (f : Routine) (i : Instr) (base place : ℕ) (at : slice_get f.body pla
         → ((code : Code) (function : ℕ) (callers : List Caller) → Along reply learn space space' (λ w tape later. effect w code (running function base) callers i.line place i.op old tape ≡ Goes (On (At (running function base) callers to new)) later))
         → ((code : Code) (plan : List Spot) (spot : Spot) → spot.height ≡ length old → IsFine code plan place spot i.op → Leads plan to spot (length new)) → RanInside reply learn f base place old space 1 to new space'
     ran_to old to new space space' does leads = record {
-      goes = λ code function callers is. along_map reply learn
-          (λ w tape later e n.
-          let one : 1 + n ≡ suc n = omega arith in
-          rw one (exec_step code f i (running function base) callers place is at old w n tape ∙ ap (λ o. then_do o (go_on (exec w code n))) e))
-          (does code function callers);
+      goes = λ code function callers is. step_on reply learn code f i (running function base) callers place is at old (At (running function base) callers to new) (does code function callers);
       falls = λ code plan rank sound here.
           let there = lower_at old to new leads code plan rank sound here in
           (there.0, omega (arith, there.1), there.2);
@@ -135,11 +170,7 @@ module _ (f : Routine) (i : Instr) (base place : ℕ) (at : slice_get f.body pla
         let stopped = halts.stops code function callers i.line place in (
           stopped.0,
           0,
-          along_map reply learn
-              (λ w tape later there n.
-              rw (zero-add, exec_step code f i (running function base) callers place is at old w n tape)
-              (ap (λ o. then_do o (go_on (exec w code n))) there))
-              stopped.1,
+          step_stops reply learn code f i (running function base) callers place is at old stop i.line stopped.1,
         )
 
 -- ---- steps in a row
@@ -147,7 +178,7 @@ module _ (f : Routine) (i : Instr) (base place : ℕ) (at : slice_get f.body pla
 module _ {S : Type 0} (reply : S → Action → Reply) (learn : S → Action → S) (f : Routine) (base place : ℕ) (stack : List ℕ) (space : S) where
   pub ran_none : RanInside reply learn f base place stack space 0 place stack space
   ran_none = record {
-    goes = λ code function callers is w start tape follows at. (tape, at, refl, refl, λ n. rw zero-add);
+    goes = λ code function callers is. on_none reply learn code (At (running function base) callers place stack) space;
     falls = λ code plan rank sound here. (rank, omega arith, here);
   }
 
@@ -157,18 +188,8 @@ module _ {S : Type 0} (reply : S → Action → Reply) (learn : S → Action →
 
   module _ {m mid : ℕ} {stack' : List ℕ} {space' : S} (ran : RanInside reply learn f base place stack space m mid stack' space') where
     pub ran_then : {n later : ℕ} {stack'' : List ℕ} {space'' : S} → RanInside reply learn f base mid stack' space' n later stack'' space'' → RanInside reply learn f base place stack space (m + n) later stack'' space''
-    ran_then {n = n} more = record {
-      goes = λ code function callers is w start tape follows at.
-          let one = ran.goes code function callers is w start tape follows at in
-          let two = more.goes code function callers is w start one.0 follows one.1 in (
-            two.0,
-            two.1,
-            two.2 ∙ one.2,
-            two.3 ∙ one.3,
-            λ k.
-                let both : m + n + k ≡ m + (n + k) = omega arith in
-                rw both (one.4 (n + k) ∙ two.4 k),
-          );
+    ran_then {n = n} {later = later} {stack'' = stack''} more = record {
+      goes = λ code function callers is. on_then reply learn code (At (running function base) callers place stack) (At (running function base) callers mid stack') (At (running function base) callers later stack'') m n (ran.goes code function callers is) (more.goes code function callers is);
       falls = λ code plan rank sound at.
           let one = ran.falls code plan rank sound at in
           let two = more.falls code plan one.0 sound one.2 in
@@ -194,15 +215,5 @@ module _ {S : Type 0} (reply : S → Action → Reply) (learn : S → Action →
         let stopped = more code function callers is in (
           stopped.0,
           m + stopped.1,
-          λ w start tape follows at.
-              let one = ran.goes code function callers is w start tape follows at in
-              let two = stopped.2 w start one.0 follows one.1 in (
-                two.0,
-                two.1,
-                two.2 ∙ one.2,
-                two.3 ∙ one.3,
-                λ n.
-                    let both : m + stopped.1 + suc n ≡ m + (stopped.1 + suc n) = omega arith in
-                    rw both (one.4 (stopped.1 + suc n) ∙ two.4 n),
-              ),
+          on_stops reply learn code (At (running function base) callers place stack) (At (running function base) callers mid stack') m stopped.1 stop line (ran.goes code function callers is) stopped.2,
         )

@@ -40,11 +40,19 @@ IsPlaced f place height =
 abbrev pub HasInstr : Routine → (place : ℕ) → Op → (line : ℕ) → Type 0
 HasInstr f place op line = (i : Instr) × (slice_get f.body place ≡ Some i) × (i.op ≡ op) × (i.line ≡ line)
 
+-- the machine goes on by itself for so many steps, and comes to a state
+abbrev pub ComesOn : Code → State → (steps : ℕ) → State → World → Tape → Tape → Type 0
+ComesOn code old steps new w tape later = (n : ℕ) → exec w code (steps + n) old tape ≡ exec w code n new later
+
+-- it goes on by itself for so many steps, and stops at the next
+abbrev pub ComesToStop : Code → State → (steps : ℕ) → Stop → (line : ℕ) → World → Tape → Tape → Type 0
+ComesToStop code old steps stop line w tape later = (n : ℕ) → StopsAt stop line (exec w code (steps + suc n) old tape) later
+
 -- Inside a function that runs over a frame at a base, the machine goes on by itself for so many steps, whatever the code and the
 -- callers, and by each plan the rank falls at each step.
 pub record RanInside {S : Type 0} (reply : S → Action → Reply) (learn : S → Action → S) (f : Routine) (base place : ℕ) (stack : List ℕ) (space : S) (steps place' : ℕ) (stack' : List ℕ) (space' : S) : Type 0 where
   pub goes : (code : Code) (function : ℕ) (callers : List Caller) → slice_get code.functions function ≡ Some f →
-      Along reply learn space space' (λ w tape later. (n : ℕ) → exec w code (steps + n) (At (running function base) callers place stack) tape ≡ exec w code n (At (running function base) callers place' stack') later)
+      Along reply learn space space' (ComesOn code (At (running function base) callers place stack) steps (At (running function base) callers place' stack'))
   pub falls : (code : Code) (plan : List Spot) (rank : ℕ) → IsSoundBody code f plan → slice_get plan place ≡ Some (record { height = length stack; rank = rank }) →
       (next : ℕ) × (next + steps ≤ rank) × (slice_get plan place' ≡ Some (record { height = length stack'; rank = next }))
 
@@ -52,7 +60,7 @@ pub record RanInside {S : Type 0} (reply : S → Action → Reply) (learn : S �
 abbrev pub StopsInside : {S : Type 0} → (S → Action → Reply) → (S → Action → S) → Routine → (base place : ℕ) → List ℕ → S → Stop → (line : ℕ) → Type 0
 StopsInside {S} reply learn f base place stack space stop line =
     (code : Code) (function : ℕ) (callers : List Caller) → slice_get code.functions function ≡ Some f →
-    (end : S) × (steps : ℕ) × Along reply learn space end (λ w tape later. (n : ℕ) → StopsAt stop line (exec w code (steps + suc n) (At (running function base) callers place stack) tape) later)
+    (end : S) × (steps : ℕ) × Along reply learn space end (ComesToStop code (At (running function base) callers place stack) steps stop line)
 
 -- the steps pause at an instruction, or stop
 abbrev pub Pauses : {S : Type 0} → (S → Action → Reply) → (S → Action → S) → Routine → (base place : ℕ) → List ℕ → S → Pause → (place' : ℕ) → List ℕ → S → Type 0
@@ -105,7 +113,7 @@ IsNoHigher units' steps' units steps = (units' < units) ⊎ ((units' ≡ units) 
 -- The machine goes on by itself over a space and with units, and the units and the steps that are left don't rise.
 pub record Went {S : Type 0} (reply : S → Action → Reply) (learn : S → Action → S) (code : Code) (old : State) (space : S) (units : ℕ) (new : State) (space' : S) (units' : ℕ) : Type 0 where
   pub steps : ℕ
-  pub goes : Along (metered reply) (spending learn) (with_units space units) (with_units space' units') (λ w tape later. (n : ℕ) → exec w code (steps + n) old tape ≡ exec w code n new later)
+  pub goes : Along (metered reply) (spending learn) (with_units space units) (with_units space' units') (ComesOn code old steps new)
   pub falls : (plans : List (List Spot)) (left : ℕ) → IsSound code plans → IsAt code plans left old → (next : ℕ) × IsAt code plans next new × IsNoHigher units' next units left
 
 -- what a run to an event reaches and leaves, with units

@@ -10,7 +10,7 @@ returns-in_err-value-clause-halts g c =
     let refused = c.in_err-value.ensures in
     let exit = err_from_is_err_and c.from_residual.result c.from_residual.ensures.1 in
     rw (exit.1, c.top.ensures.1)
-    (λ op is base units. halts_load (metered g.S.Space.reply) (spending g.S.Space.learn) base c.top.result c.top.ensures.0 (with_units c.args.space.now units) (with_units c.load.new.self units) op c.args.to is exit.0 (rw exit.2 refused.refuses))
+    (λ op is base units. halts_load (metered g.S.Space.reply) (spending g.S.Space.learn) base c.top.result c.top.ensures.0 (with_units c.args.space.now units) op c.args.to is exit.0 (rw exit.2 refused.refuses))
 
 pub returns-clause-performs : goal.returns-clause-performs
 returns-clause-performs g c =

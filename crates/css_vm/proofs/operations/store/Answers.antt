@@ -11,7 +11,7 @@ returns-in_err-store-clause-halts g c =
     let v = c.pop-value.result in
     let stack : c.args.stack.now.own ≡ v ∷ c.top.result ∷ c.top.ensures.0 = c.pop-value.ensures.own ∙ ap (λ below. v ∷ below) c.top.ensures.1 in
     rw (exit.1, stack)
-    (λ base units. halts_store (metered g.S.Space.reply) (spending g.S.Space.learn) base c.top.result c.top.ensures.0 (with_units c.args.space.now units) (with_units c.store.new.self units) v exit.0 (rw exit.2 refused.refuses))
+    (λ base units. halts_store (metered g.S.Space.reply) (spending g.S.Space.learn) base c.top.result c.top.ensures.0 (with_units c.args.space.now units) v exit.0 (rw exit.2 refused.refuses))
 
 pub returns-clause-performs : goal.returns-clause-performs
 returns-clause-performs g c =
@@ -22,7 +22,7 @@ returns-clause-performs g c =
     let stack : c.args.stack.now.own ≡ v ∷ c.top.result ∷ c.top.ensures.0 = c.pop-value.ensures.own ∙ ap (λ below. v ∷ below) below in
     let left : c.set_top.new.self.own ≡ v ∷ c.top.ensures.0 = cc (below, after.own.2, after.own.3) in
     rw (stack, left)
-    (λ base units. performs_store (metered g.S.Space.reply) (spending g.S.Space.learn) base c.top.result c.top.ensures.0 (with_units c.args.space.now units) (with_units c.store.new.self units) v stored.says.0 stored.says.1 (ap (λ s. with_units s units) stored.learns))
+    (λ base units. performs_store (metered g.S.Space.reply) (spending g.S.Space.learn) base c.top.result c.top.ensures.0 (with_units c.args.space.now units) v (with_units c.store.new.self units) stored.says.0 stored.says.1 (ap (λ s. with_units s units) stored.learns))
 
 pub returns-clause-place : goal.returns-clause-place
 returns-clause-place g c = ap g.S.Space.place c.in_ok-store.ensures.learns ∙ g.S.Space.place_moves.stores c.args.space.now _ _
