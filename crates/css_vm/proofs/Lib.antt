@@ -4,3 +4,4 @@ pub mod Stacks
 pub mod Steps
 pub mod Runs
 pub mod Entries
+pub mod Pauses

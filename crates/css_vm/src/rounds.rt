@@ -161,7 +161,9 @@ fn submit(
     let Some(shape) = &task.task else {
         unreachable!()
     };
-    let count = dimensions(shape);
+    let Some(count) = dimensions(shape) else {
+        return Err(NoMemory);
+    };
     let dims = Vec::from_slice(alloc, activations.topmost(count))?;
     activations.drop_topmost(count);
     let arity = task.params.len();

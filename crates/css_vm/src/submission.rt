@@ -1,5 +1,5 @@
 //! What a call of a task is given.
-ghost use Rattle.std.specs.Prelude.{◌≡◌, ◌<◌, ◌*◌, ◌%◌, ◌^◌, length, map, IfOk};
+ghost use Rattle.std.specs.Prelude.{◌≡◌, ◌*◌, ◌%◌, ◌^◌, length, map, IfOk, IfSome};
 ghost use Rattle.css_vm.specs.Code.{all_dimensions, dimensions_of, narrowed_to};
 ghost use Rattle.css_vm.specs.Spaces.{bytes_of};
 
@@ -8,16 +8,15 @@ use crate::space::Width;
 use css_base::NoMemory;
 use std::alloc::Global;
 
-/// How many dimensions a call of a task has, which are fewer than an index can count.
-pub(crate) fn dimensions(shape: &TaskShape) -> usize
-    requires { all_dimensions shape.now.args.items < 2 ^ 64 }
-    ensures { result ≡ all_dimensions shape.now.args.items }
+/// How many dimensions a call of a task has. None where they are more than a stack can have cells.
+pub(crate) fn dimensions(shape: &TaskShape) -> Option<usize>
+    ensures { IfSome result (λ count. count ≡ all_dimensions shape.now.args.items) }
 {
-    let mut count = 0;
+    let mut count: usize = 0;
     for part in &shape.args {
-        count += part_dimensions(*part) as usize;
+        count = count.checked_add(part_dimensions(*part) as usize)?;
     }
-    count
+    Some(count)
 }
 
 // How many dimensions a part of a call has.
