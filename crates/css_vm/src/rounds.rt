@@ -60,7 +60,8 @@ fn run_to_entry<S: Space>(
     ensures { IfOk result (λ e. ComesToEntry S.reply S.learn S.place (code_of code.now) activations.old space.old units.old e activations.new space.new units.new) }
 {
     loop {
-        match run_round(activations, alloc, code, space, units)? {
+        let round = run_round(activations, alloc, code, space, units)?;
+        match round {
             Round::Enters => return Ok(None),
             Round::Returns => {}
             Round::Makes(event) => return Ok(Some(event)),
@@ -81,7 +82,8 @@ fn run_round<S: Space>(
     requires stacked { IsStacked (code_of code.now) (S.place space.old) activations.old }
     ensures { IfOk result (λ r. ComesRound S.reply S.learn S.place (code_of code.now) activations.old space.old units.old r activations.new space.new units.new) }
 {
-    match activations.run_to_pause(code, space)? {
+    let pause = activations.run_to_pause(code, space)?;
+    match pause {
         Pause::Stopped(stop, line) => Ok(Round::Makes(Event::Stopped(stop, line))),
         Pause::At(op, line) => settle(activations, alloc, op, line, code, space, units),
     }
