@@ -101,14 +101,17 @@ impl Machine {
             self.old (with_units space.old units.old) e self.new (with_units space.new units.new)) }
         ensures leaves { IfOk result (λ e. Leaves (code_of code.now) self.old units.old e self.new units.new (S.place space.new)) }
     {
-        if !self.begun {
-            match enter(code.function(self.function), &self.arguments, space, units) {
-                Ok(base) => self.activations = Activations::new(alloc, self.function, base),
-                Err(stop) => return Ok(Event::Stopped(stop, self.line)),
-            }
-            self.begun = true;
+        if self.begun {
+            return run(&mut self.activations, alloc, code, space, units);
         }
-        run(&mut self.activations, alloc, code, space, units)
+        match enter(code.function(self.function), &self.arguments, space, units) {
+            Ok(base) => {
+                self.activations = Activations::new(alloc, self.function, base);
+                self.begun = true;
+                run(&mut self.activations, alloc, code, space, units)
+            }
+            Err(stop) => Ok(Event::Stopped(stop, self.line)),
+        }
     }
 
     /// The base of the innermost frame, once the function is entered.
