@@ -173,7 +173,7 @@ module _ {S : Type 0} (reply : S → Action → Reply) (learn : S → Action →
 
         leaves_then : (e : Event) → Leaves code mid left e new units' (place later) → Leaves code old units e new units' (place later)
         leaves_then (events.Out bytes) leaves = (leaves.0, falls_then leaves.1, leaves.2)
-        leaves_then (events.Submit s) leaves = (leaves.0, falls_then leaves.1, leaves.2)
+        leaves_then (events.Submit s) leaves = (leaves.0, falls_then leaves.1, leaves.2, leaves.3)
         leaves_then (events.Mark kind line) leaves = (leaves.0, falls_then leaves.1, leaves.2)
         leaves_then (events.Ended value line) leaves = leaves
         leaves_then (events.Stopped stop line) leaves = tt
