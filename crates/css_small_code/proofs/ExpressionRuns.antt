@@ -102,13 +102,13 @@ module _ (w : World) (code : Code) (here : Running code) (line n : ℕ) where
 
   unary_follows : (op : UnOp) (e : Expression) → Follows e → IsInt e → Follows (Unary op e)
   unary_follows op e operand in_range place stack t h =
-      let code = expression_code e place in
-      let behind = ops_back here.routine.body line place code (unary_code op) h in
-      let mid = place + length code in
+      let ce = expression_code e place in
+      let behind = ops_back here.routine.body line place ce (unary_code op) h in
+      let mid = place + length ce in
       let end = mid + length (unary_code op) in
-      let same : end ≡ place + length (code ++ unary_code op) = omega (arith, length-append code (unary_code op)) in
-      value_at w code here end (place + length (code ++ unary_code op)) same
-      (runs_known (IsInRange Int) (in_range t) (operand place stack t (ops_front here.routine.body line place code (unary_code op) h)) (λ v t' int.
+      let same : end ≡ place + length (ce ++ unary_code op) = omega (arith, length-append ce (unary_code op)) in
+      value_at w code here end (place + length (ce ++ unary_code op)) same
+      (runs_known (IsInRange Int) (in_range t) (operand place stack t (ops_front here.routine.body line place ce (unary_code op) h)) (λ v t' int.
       let result = unary_value op Int v in
       runs_steps (length (unary_code op)) (λ k. Value w code here end stack k result t') (λ k. unary_runs w code here line mid op v stack t' k behind int) (runs_done n (Value w code here end stack) result t')))
 

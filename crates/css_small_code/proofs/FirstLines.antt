@@ -68,7 +68,7 @@ module _ (functions : List Function) where
         let test = ops.Jumpz (first + length cs + 1) in
         let head = in_line line (ce ++ test ∷ ops.Turn ∷ []) in
         begins_both line (head ++ cs) (in_line line (ops.Jump at ∷ [])) (begins_both line head cs (first_in_line line ce test (ops.Turn ∷ []))) rest
-  
+
     pub first_of_statements : (all : Statements) (at : ℕ) (rest : List Instr) → first_line (statements_code functions all at ++ rest) ≡ unwrap_or (line_in_all all) (first_line rest)
     first_of_statements End at rest = refl
     first_of_statements (More s others) at rest =

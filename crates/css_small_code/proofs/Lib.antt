@@ -1,9 +1,11 @@
+pub mod Calls
 pub mod Cells
 pub mod CellsArithmetic
 pub mod CellsBits
 pub mod CellsElements
 pub mod CellsMemory
 pub mod CellsTests
+pub mod Correct
 pub mod Emitted
 pub mod EmittedStatements
 pub mod Ends
@@ -13,8 +15,10 @@ pub mod FirstLines
 pub mod InRange
 pub mod LineStands
 pub mod Lines
+pub mod Made
 pub mod OperatorSteps
 pub mod Operators
+pub mod Results
 pub mod Runs
 pub mod Stands
 pub mod StatementRuns

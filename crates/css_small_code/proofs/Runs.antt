@@ -67,6 +67,10 @@ after_to : {R A : Type 0} (n : ℕ) (from mid : Run R) (land : Landing R A) (o :
 after_to n from mid land (Goes a t) first r = λ k. let b = r k in let c = first b.0 in (c.0, omega (arith, b.1, c.1), c.2 ∙ b.2)
 after_to n from mid land (Stops why t) first r = let c = first r.0 in (c.0, omega (arith, r.1, c.1), c.2 ∙ r.2)
 
+-- the same from steps that are the same
+pub runs_as : {R A : Type 0} {n : ℕ} {from : Run R} (mid : Run R) {land : Landing R A} {o : Outcome A} → ((k : ℕ) → from k ≡ mid k) → Runs n mid land o → Runs n from land o
+runs_as {n = n} {from = from} mid {land = land} {o = o} first r = record { by = after_to n from mid land o (λ k. (k, omega arith, first k)) r.by }
+
 then_to : {R A B : Type 0} (n : ℕ) (from : Run R) (mid : Landing R A) (land : Landing R B) (o : Outcome A) (go : A → Tape → Outcome B) → RunsTo n from mid o → ((a : A) (t : Tape) → Runs n (λ k. mid k a t) land (go a t)) → RunsTo n from land (then_do o go)
 then_to n from mid land (Goes a t) go r next = after_to n from (λ k. mid k a t) land (go a t) r (next a t).by
 then_to n from mid land (Stops why t) go r next = r

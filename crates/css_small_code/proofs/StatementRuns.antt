@@ -117,7 +117,7 @@ module _ (w : World) (code : Code) (here : Running code) (call : Calling) (funct
       let end = place + length (in_line line (ce ++ ops.Ret ∷ [])) in
       let behind = ops_back here.routine.body line place ce (ops.Ret ∷ []) h in
       runs_known (IsInRange Int) (value_in_range w here.activation.base scope line e t known) (follows w code here line n scope e known place stack t (ops_front here.routine.body line place ce (ops.Ret ∷ []) h)) (λ v t' int.
-      runs_step (λ k. Left w code here v line t') (ret_step w code here v line (place + length ce) stack t' behind.0) (runs_done n (Flowing w code here end stack) (Returned v line) t'))
+      runs_step (λ k. Left w code here k v line t') (ret_step w code here v line (place + length ce) stack t' behind.0) (runs_done n (Flowing w code here end stack) (Returned v line) t'))
 
   -- nothing to do
   skips : (place : ℕ) (stack : List ℕ) (t : Tape) → Runs n (From w code here place stack t) (Flowing w code here (place + 0) stack) (Goes Next t)
@@ -204,7 +204,7 @@ module _ (w : World) (code : Code) (here : Running code) (call : Calling) (funct
       let o = ask w Turn line t in
       let after = λ (r : ℕ) (t' : Tape). Goes (On (state w code here (place + 1) stack)) t' in
       runs_counted (λ k. then_do o (λ r t'. From w code here (place + 1) stack t' k))
-      (λ k. one_step w code here line ops.Turn place stack t (then_do o after) h refl k ∙ then_assoc o after (go_on (exec w f k)))
+      (λ k. one_step w code here line ops.Turn place stack t (then_do o after) h refl k ∙ then_assoc o after (go_on (exec w code k)))
       (runs_then (runs_asks {land = λ k r t'. From w code here (place + 1) stack t' k} o (λ k. refl)) r)
 
   -- as many turns as steps at least: a loop from its condition on
