@@ -1,0 +1,5 @@
+pub mod ExpressionHeights
+pub mod Heights
+pub mod Inside
+pub mod Lines
+pub mod Stands
