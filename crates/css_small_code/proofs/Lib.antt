@@ -2,4 +2,6 @@ pub mod ExpressionHeights
 pub mod Heights
 pub mod Inside
 pub mod Lines
+pub mod Spots
 pub mod Stands
+pub mod StatementSpots
