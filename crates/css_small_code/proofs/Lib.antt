@@ -5,3 +5,4 @@ pub mod Lines
 pub mod Spots
 pub mod Stands
 pub mod StatementSpots
+pub mod StatementsFine

@@ -1,36 +1,27 @@
 -- The plan of a program's code. A loop's pieces have their ranks in this order from the lowest: what stands behind the loop, the turn,
 -- the test's jump, the condition, the jump back, the body.
-use Rattle.std.proofs.Common.{◌≡◌, ℕ, ◌+◌, ◌-◌, ◌<◌, ◌≤◌, Bool, true, false, List, [], ◌∷◌, ◌++◌, length, Some, refl, sym, ap, ◌∙◌, subst, arith, length-append}
+use Rattle.std.proofs.Common.{◌≡◌, ℕ, ◌+◌, ◌≤◌, Bool, true, false, List, [], ◌∷◌, ◌++◌, length, refl, sym, ◌∙◌, arith, length-append}
 use Rattle.std.specs.Prelude.{slice_get}
 use Rattle.css_vm.specs.declared.code.Instr.{Instr}
 use Rattle.css_vm.specs.declared.code.Op.{Op}
 use Rattle.css_vm.specs.declared.code.Op.TheVariants as ops
 use Rattle.css_vm.specs.declared.code.Conversion.TheVariants as conversions
-use Rattle.css_vm.specs.declared.code.MarkKind.TheVariants as marks
-use Rattle.css_vm.specs.Code.{Routine, Shape, Code, all_dimensions}
-use Rattle.css_vm.specs.Soundness.{Spot, Stays, gives, arguments_taken, dimensions_taken, dimensions_of_task, IsFine}
-use Rattle.css_small.specs.declared.tree.Directive.{Directive}
-use Rattle.css_small.specs.declared.tree.Directive.TheVariants as directives
-use Rattle.css_small.specs.Tree.{Expression, Statement, Declare, Initialise, Empty, Assign, AssignElement, Call, Mark, Put, Return, Block, If, IfElse, While, Statements, End, More, Function}
-use Rattle.css_small.specs.Numbers.{Scope, AreWithin, AllWithin}
-use Rattle.css_small_code.specs.Code.{in_line, expression_code, assignment_code, element_code, element_assignment_code, is_task_there, call_code, mark_of, statement_code, statements_code}
-use Rattle.css_small_code.specs.Meaning.{place_of}
-use Rattle.css_small_code.proofs.Lines.{in_line-append, length-in_line}
-use Rattle.css_small_code.proofs.Stands.{Stands, stands_front, stands_back}
-use Rattle.css_small_code.proofs.Heights.{behind, behind-append, AllFit, both_fit, HeightsStand, heights_front, heights_back}
-use Rattle.css_small_code.proofs.ExpressionHeights.{behind_expression, behind_element, expression_fits, address_fits}
-use Rattle.css_small_code.proofs.Inside.{Inside, both_inside, expression_inside, element_inside}
-use Rattle.css_small_code.proofs.Spots.{spot, AllAtMost, both_at_most, BeginsEmpty, begins_with, spots, length-spots, spots-append, spots_at_most, spots_begin, At, at_there, leads_at, heights_stand, AllFine, both_fine, line_fine, begins_at}
+use Rattle.css_vm.specs.Code.{Code}
+use Rattle.css_vm.specs.Soundness.{Spot}
+use Rattle.css_small.specs.Tree.{Statement, Declare, Initialise, Empty, Assign, AssignElement, Call, Mark, Put, Return, Block, If, IfElse, While, Statements, End, More, Function}
+use Rattle.css_small_code.specs.Code.{in_line, expression_code, assignment_code, element_assignment_code, is_task_there, call_code, mark_of, statement_code, statements_code}
+use Rattle.css_small_code.proofs.Lines.{length-in_line}
+use Rattle.css_small_code.proofs.Spots.{spot, AllAtMost, both_at_most, BeginsEmpty, begins_with, spots, length-spots, spots_at_most, spots_begin}
 
 -- a call's spots: the argument lies on the stack, and the answer whether tasks are made above it
-abbrev call_spots : (is_task : Bool) → ℕ → List Spot
+abbrev pub call_spots : (is_task : Bool) → ℕ → List Spot
 call_spots false above = spot 0 (above + 3) ∷ spot 1 (above + 2) ∷ spot 1 (above + 1) ∷ []
 call_spots true above =
     spot 0 (above + 7) ∷ spot 1 (above + 6) ∷ spot 2 (above + 5) ∷ spot 1 (above + 4) ∷ spot 1 (above + 3) ∷ spot 1 (above + 2)
     ∷ spot 1 (above + 1) ∷ []
 
 -- two parts, each with a spot for each instruction
-length_both : (xs ys : List Spot) (is js : List Instr) → length xs ≡ length is → length ys ≡ length js → length (xs ++ ys) ≡ length (is ++ js)
+pub length_both : (xs ys : List Spot) (is js : List Instr) → length xs ≡ length is → length ys ≡ length js → length (xs ++ ys) ≡ length (is ++ js)
 length_both xs ys is js e f = omega (arith, e, f, length-append xs ys, length-append is js)
 
 length_call : (is_task : Bool) (line f k at above : ℕ) → length (call_spots is_task above) ≡ length (in_line line (call_code is_task f k at))
@@ -45,13 +36,6 @@ call_within true line f k at above most le =
 call_begins : (is_task : Bool) (above : ℕ) → BeginsEmpty (call_spots is_task above)
 call_begins false above = refl
 call_begins true above = refl
-
--- ---- what a call finds
-
--- a function that is there with one parameter, and as a task with no dimensions
-abbrev pub IsCallable : Code → (is_task : Bool) → ℕ → Type 0
-IsCallable code false k = (f : Routine) × (slice_get code.functions k ≡ Some f) × (length f.parameters ≡ 1)
-IsCallable code true k = (f : Routine) × (s : Shape) × (slice_get code.functions k ≡ Some f) × (f.task ≡ Some s) × (length f.parameters ≡ 1) × (all_dimensions s.arguments ≡ 0)
 
 module _ (code : Code) (functions : List Function) where
   abbrev mutual
@@ -95,11 +79,11 @@ module _ (code : Code) (functions : List Function) where
 
   -- ---- each instruction has a spot
 
-  length_line : (line above : ℕ) (all : List Op) → length (spots code above 0 all) ≡ length (in_line line all)
+  pub length_line : (line above : ℕ) (all : List Op) → length (spots code above 0 all) ≡ length (in_line line all)
   length_line line above all = length-spots code above 0 all ∙ sym (length-in_line line all)
 
   mutual
-    length-spots_of : (s : Statement) (at above : ℕ) → length (spots_of s at above) ≡ length (statement_code functions s at)
+    pub length-spots_of : (s : Statement) (at above : ℕ) → length (spots_of s at above) ≡ length (statement_code functions s at)
     length-spots_of (Declare line k) at above = refl
     length-spots_of (Initialise line k e) at above = length_line line above (assignment_code k e at)
     length-spots_of (Empty line) at above = refl
@@ -157,7 +141,7 @@ module _ (code : Code) (functions : List Function) where
   line_within line above most all le = spots_at_most code above 0 most all (omega (arith, le, length-in_line line all))
 
   mutual
-    spots_within : (s : Statement) (at above most : ℕ) → above + length (statement_code functions s at) ≤ most → AllAtMost most (spots_of s at above)
+    pub spots_within : (s : Statement) (at above most : ℕ) → above + length (statement_code functions s at) ≤ most → AllAtMost most (spots_of s at above)
     spots_within (Declare line k) at above most le = tt
     spots_within (Initialise line k e) at above most le = line_within line above most (assignment_code k e at) le
     spots_within (Empty line) at above most le = tt
@@ -222,7 +206,7 @@ module _ (code : Code) (functions : List Function) where
   -- ---- the stack is empty at first
 
   mutual
-    spots_of-begin : (s : Statement) (at above : ℕ) → BeginsEmpty (spots_of s at above)
+    pub spots_of-begin : (s : Statement) (at above : ℕ) → BeginsEmpty (spots_of s at above)
     spots_of-begin (Declare line k) at above = tt
     spots_of-begin (Initialise line k e) at above = spots_begin code above (assignment_code k e at)
     spots_of-begin (Empty line) at above = tt
