@@ -1,5 +1,5 @@
 -- The code of a function besides main makes no events and calls nothing.
-use Rattle.std.proofs.Common.{◌≡◌, ℕ, ◌+◌, ◌<◌, ◌≤◌, List, [], ◌∷◌, ◌++◌, length, subst, sym, arith}
+use Rattle.std.proofs.Common.{◌≡◌, ℕ, ◌+◌, ◌≤◌, List, [], ◌∷◌, ◌++◌, length, arith}
 use Rattle.std.specs.List.{AllByRecursion}
 use Rattle.css_num.specs.declared.operators.UnOp.{UnOp}
 use Rattle.css_num.specs.declared.operators.UnOp.TheVariants as unary
@@ -11,7 +11,6 @@ use Rattle.css_vm.specs.declared.code.Op.TheVariants as ops
 use Rattle.css_small.specs.Tree.{Expression, Number, Variable, Element, Unary, Binary, And, Or, Statement, Declare, Initialise, Empty, Assign, AssignElement, Call, Mark, Put, Return, Block, If, IfElse, While, Statements, End, More, Function}
 use Rattle.css_small.specs.Numbers.{Scope, AreWithin, AllWithin}
 use Rattle.css_small_code.specs.Code.{in_line, truth_code, unary_code, binary_code, index_code, pointer_code, expression_code, assignment_code, element_code, element_assignment_code, statement_code, statements_code}
-use Rattle.css_small_code.specs.Meaning.{place_of}
 
 -- neither a call nor an event
 abbrev pub IsInner : Op → Type 0
@@ -58,34 +57,35 @@ binary_inner binary.Le = (tt, (tt, (tt, (tt, tt))))
 binary_inner binary.Ge = (tt, (tt, (tt, tt)))
 binary_inner _ = (tt, (tt, tt))
 
-mutual
-  expression_inner : (e : Expression) (at : ℕ) → AreInner (expression_code e at)
-  expression_inner (Number value) at = (tt, tt)
-  expression_inner (Variable k) at = (tt, (tt, tt))
-  expression_inner (Element e) at = both_inner (element_code e at) (ops.Load32s ∷ []) (element_inner e at) (tt, tt)
-  expression_inner (Unary op e) at = both_inner (expression_code e at) (unary_code op) (expression_inner e at) (unary_inner op)
-  expression_inner (Binary op a b) at =
-      let ca = expression_code a at in
-      let cb = expression_code b (at + length ca) in
-      both_inner (ca ++ cb) (binary_code op) (both_inner ca cb (expression_inner a at) (expression_inner b (at + length ca))) (binary_inner op)
-  expression_inner (And a b) at =
-      let ca = expression_code a at in
-      let cb = expression_code b (at + length ca + 1) in
-      let no = at + length ca + 1 + length cb + 3 in
-      let jumped = ops.Jumpz no ∷ cb in
-      both_inner (ca ++ jumped ++ truth_code) (ops.Jump (no + 1) ∷ ops.Push _ ∷ [])
-      (both_inner (ca ++ jumped) truth_code (both_inner ca jumped (expression_inner a at) (tt, expression_inner b (at + length ca + 1))) (tt, (tt, tt))) (tt, (tt, tt))
-  expression_inner (Or a b) at =
-      let ca = expression_code a at in
-      let other = at + length ca + 3 in
-      let cb = expression_code b other in
-      let jumps = ops.Jumpz other ∷ ops.Push _ ∷ ops.Jump (other + length cb + 2) ∷ cb in
-      both_inner (ca ++ jumps) truth_code (both_inner ca jumps (expression_inner a at) (tt, (tt, (tt, expression_inner b other)))) (tt, (tt, tt))
+-- the address of an element
+place_inner : (e : Expression) (at : ℕ) → AreInner (expression_code e (at + 2)) → AreInner (element_code e at)
+place_inner e at inner = both_inner (pointer_code ++ expression_code e (at + 2)) index_code (tt, (tt, inner)) (tt, (tt, (tt, tt)))
 
-  element_inner : (e : Expression) (at : ℕ) → AreInner (element_code e at)
-  element_inner e at =
-      let ce = expression_code e (at + 2) in
-      both_inner (pointer_code ++ ce) index_code (tt, (tt, expression_inner e (at + 2))) (tt, (tt, (tt, tt)))
+expression_inner : (e : Expression) (at : ℕ) → AreInner (expression_code e at)
+expression_inner (Number value) at = (tt, tt)
+expression_inner (Variable k) at = (tt, (tt, tt))
+expression_inner (Element e) at = both_inner (element_code e at) (ops.Load32s ∷ []) (place_inner e at (expression_inner e (at + 2))) (tt, tt)
+expression_inner (Unary op e) at = both_inner (expression_code e at) (unary_code op) (expression_inner e at) (unary_inner op)
+expression_inner (Binary op a b) at =
+    let ca = expression_code a at in
+    let cb = expression_code b (at + length ca) in
+    both_inner (ca ++ cb) (binary_code op) (both_inner ca cb (expression_inner a at) (expression_inner b (at + length ca))) (binary_inner op)
+expression_inner (And a b) at =
+    let ca = expression_code a at in
+    let cb = expression_code b (at + length ca + 1) in
+    let no = at + length ca + 1 + length cb + 3 in
+    let jumped = ops.Jumpz no ∷ cb in
+    both_inner (ca ++ jumped ++ truth_code) (ops.Jump (no + 1) ∷ ops.Push _ ∷ [])
+    (both_inner (ca ++ jumped) truth_code (both_inner ca jumped (expression_inner a at) (tt, expression_inner b (at + length ca + 1))) (tt, (tt, tt))) (tt, (tt, tt))
+expression_inner (Or a b) at =
+    let ca = expression_code a at in
+    let other = at + length ca + 3 in
+    let cb = expression_code b other in
+    let jumps = ops.Jumpz other ∷ ops.Push _ ∷ ops.Jump (other + length cb + 2) ∷ cb in
+    both_inner (ca ++ jumps) truth_code (both_inner ca jumps (expression_inner a at) (tt, (tt, (tt, expression_inner b other)))) (tt, (tt, tt))
+
+element_inner : (e : Expression) (at : ℕ) → AreInner (element_code e at)
+element_inner e at = place_inner e at (expression_inner e (at + 2))
 
 -- a condition and operators behind it, or a value
 ended_inner : (e : Expression) (at : ℕ) (last : List Op) → AreInner last → AreInner (expression_code e at ++ last)

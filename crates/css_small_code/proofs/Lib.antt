@@ -1,7 +1,10 @@
 pub mod ExpressionHeights
 pub mod Heights
+pub mod Inner
 pub mod Inside
 pub mod Lines
+pub mod Places
+pub mod Sound
 pub mod Spots
 pub mod Stands
 pub mod StatementSpots

@@ -7,7 +7,7 @@ use Rattle.css_vm.specs.declared.code.Instr.{Instr}
 use Rattle.css_vm.specs.declared.code.Op.{Op}
 use Rattle.css_vm.specs.declared.code.Op.TheVariants as ops
 use Rattle.css_vm.specs.Code.{Code}
-use Rattle.css_vm.specs.Soundness.{Spot, Stays, Leads, takes, gives, needs, Names, GoesOn, IsFine}
+use Rattle.css_vm.specs.Soundness.{Spot, Stays, Leads, takes, gives, GoesOn, IsFine}
 use Rattle.css_small_code.specs.Code.{in_line}
 use Rattle.css_small_code.proofs.Stands.{Stands}
 use Rattle.css_small_code.proofs.Heights.{leaves, behind, Lands, AllFit, HeightsStand, first_height}
@@ -161,9 +161,9 @@ module _ (code : Code) where
         λ to low high. let r = counted above after all (place + 1) to stands.1 rank (omega (arith, low)) (omega (arith, high, next)) in (r.0, r.1, omega (arith, r.2)) in
         let here = spot height (above + suc (length all)) in
         let fine : IsFine code plan place here op = record {
-            finds = fit.0;
-            names = fit.1;
-            goes_on = goes_on end place here op fit.2 inside.0 lower (omega (arith, is)) ahead;
+          finds = fit.0;
+          names = fit.1;
+          goes_on = goes_on end place here op fit.2 inside.0 lower (omega (arith, is)) ahead;
         } in
         (fine, line_fine above after end (place + 1) line all next stands.1 last fit.3 inside.1)
 

@@ -131,19 +131,19 @@ module _ (code : Code) (functions : List Function) (plan : List Spot) where
   plain_call_fine line f k above place is stands end =
       let one : arguments_taken (slice_get code.functions f) ≡ 1 = ap arguments_taken is.1 ∙ is.2 in
       let argument : IsFine code plan place (spot 0 (above + 3)) (ops.Frame (place_of k)) = record {
-          finds = omega arith;
-          names = tt;
-          goes_on = leads_at code plan (place + 1) 1 (above + 2) (spot 0 (above + 3)) (omega arith) (spot 1 (above + 2), stands.1.0, refl, omega arith);
+        finds = omega arith;
+        names = tt;
+        goes_on = leads_at code plan (place + 1) 1 (above + 2) (spot 0 (above + 3)) (omega arith) (spot 1 (above + 2), stands.1.0, refl, omega arith);
       } in
       let call : IsFine code plan (place + 1) (spot 1 (above + 2)) (ops.Call f) = record {
-          finds = omega (arith, one);
-          names = (is.0, is.1);
-          goes_on = (spot 1 (above + 1), stands.1.1.0, omega (arith, one));
+        finds = omega (arith, one);
+        names = (is.0, is.1);
+        goes_on = (spot 1 (above + 1), stands.1.1.0, omega (arith, one));
       } in
       let dropped : IsFine code plan (place + 1 + 1) (spot 1 (above + 1)) ops.Drop = record {
-          finds = omega arith;
-          names = tt;
-          goes_on = leads_at code plan (place + 1 + 1 + 1) 0 above (spot 1 (above + 1)) (omega arith) (at_there code plan (place + 3) (place + 1 + 1 + 1) 0 above (omega arith) end);
+        finds = omega arith;
+        names = tt;
+        goes_on = leads_at code plan (place + 1 + 1 + 1) 0 above (spot 1 (above + 1)) (omega arith) (at_there code plan (place + 3) (place + 1 + 1 + 1) 0 above (omega arith) end);
       } in
       (argument, (call, (dropped, tt)))
 
@@ -154,42 +154,42 @@ module _ (code : Code) (functions : List Function) (plan : List Spot) where
       let at_call : At code plan (place + 5) 1 (above + 2) = at_there code plan (place + 1 + 1 + 1 + 1 + 1) (place + 5) 1 (above + 2) (omega arith) (spot 1 (above + 2), stands.1.1.1.1.1.0, refl, omega arith) in
       let at_drop : At code plan (place + 6) 1 (above + 1) = at_there code plan (place + 1 + 1 + 1 + 1 + 1 + 1) (place + 6) 1 (above + 1) (omega arith) (spot 1 (above + 1), stands.1.1.1.1.1.1.0, refl, omega arith) in
       let argument : IsFine code plan place (spot 0 (above + 7)) (ops.Frame (place_of k)) = record {
-          finds = omega arith;
-          names = tt;
-          goes_on = leads_at code plan (place + 1) 1 (above + 6) (spot 0 (above + 7)) (omega arith) (spot 1 (above + 6), stands.1.0, refl, omega arith);
+        finds = omega arith;
+        names = tt;
+        goes_on = leads_at code plan (place + 1) 1 (above + 6) (spot 0 (above + 7)) (omega arith) (spot 1 (above + 6), stands.1.0, refl, omega arith);
       } in
       let asks : IsFine code plan (place + 1) (spot 1 (above + 6)) (ops.Mark marks.Started) = record {
-          finds = omega arith;
-          names = tt;
-          goes_on = leads_at code plan (place + 1 + 1) 2 (above + 5) (spot 1 (above + 6)) (omega arith) (spot 2 (above + 5), stands.1.1.0, refl, omega arith);
+        finds = omega arith;
+        names = tt;
+        goes_on = leads_at code plan (place + 1 + 1) 2 (above + 5) (spot 1 (above + 6)) (omega arith) (spot 2 (above + 5), stands.1.1.0, refl, omega arith);
       } in
       let test : IsFine code plan (place + 1 + 1) (spot 2 (above + 5)) (ops.Jumpz (place + 5)) = record {
-          finds = omega arith;
-          names = tt;
-          goes_on = (
-              leads_at code plan (place + 5) 1 (above + 2) (spot 2 (above + 5)) (omega arith) at_call,
-              leads_at code plan (place + 1 + 1 + 1) 1 (above + 4) (spot 2 (above + 5)) (omega arith) (spot 1 (above + 4), stands.1.1.1.0, refl, omega arith),
-          );
+        finds = omega arith;
+        names = tt;
+        goes_on = (
+          leads_at code plan (place + 5) 1 (above + 2) (spot 2 (above + 5)) (omega arith) at_call,
+          leads_at code plan (place + 1 + 1 + 1) 1 (above + 4) (spot 2 (above + 5)) (omega arith) (spot 1 (above + 4), stands.1.1.1.0, refl, omega arith),
+        );
       } in
       let submit : IsFine code plan (place + 1 + 1 + 1) (spot 1 (above + 4)) (ops.Submit f) = record {
-          finds = omega (arith, one, none);
-          names = (is.0, is.1, is.2, is.3);
-          goes_on = leads_at code plan (place + 1 + 1 + 1 + 1) (1 - (arguments_taken (slice_get code.functions f) + dimensions_taken (slice_get code.functions f)) + 1) (above + 3) (spot 1 (above + 4)) (omega arith) (spot 1 (above + 3), stands.1.1.1.1.0, omega (arith, one, none), omega arith);
+        finds = omega (arith, one, none);
+        names = (is.0, is.1, is.2, is.3);
+        goes_on = leads_at code plan (place + 1 + 1 + 1 + 1) (1 - (arguments_taken (slice_get code.functions f) + dimensions_taken (slice_get code.functions f)) + 1) (above + 3) (spot 1 (above + 4)) (omega arith) (spot 1 (above + 3), stands.1.1.1.1.0, omega (arith, one, none), omega arith);
       } in
       let over : IsFine code plan (place + 1 + 1 + 1 + 1) (spot 1 (above + 3)) (ops.Jump (place + 6)) = record {
-          finds = omega arith;
-          names = tt;
-          goes_on = leads_at code plan (place + 6) 1 (above + 1) (spot 1 (above + 3)) (omega arith) at_drop;
+        finds = omega arith;
+        names = tt;
+        goes_on = leads_at code plan (place + 6) 1 (above + 1) (spot 1 (above + 3)) (omega arith) at_drop;
       } in
       let call : IsFine code plan (place + 1 + 1 + 1 + 1 + 1) (spot 1 (above + 2)) (ops.Call f) = record {
-          finds = omega (arith, one);
-          names = (is.0, is.2);
-          goes_on = (spot 1 (above + 1), stands.1.1.1.1.1.1.0, omega (arith, one));
+        finds = omega (arith, one);
+        names = (is.0, is.2);
+        goes_on = (spot 1 (above + 1), stands.1.1.1.1.1.1.0, omega (arith, one));
       } in
       let dropped : IsFine code plan (place + 1 + 1 + 1 + 1 + 1 + 1) (spot 1 (above + 1)) ops.Drop = record {
-          finds = omega arith;
-          names = tt;
-          goes_on = leads_at code plan (place + 1 + 1 + 1 + 1 + 1 + 1 + 1) 0 above (spot 1 (above + 1)) (omega arith) (at_there code plan (place + 7) (place + 1 + 1 + 1 + 1 + 1 + 1 + 1) 0 above (omega arith) end);
+        finds = omega arith;
+        names = tt;
+        goes_on = leads_at code plan (place + 1 + 1 + 1 + 1 + 1 + 1 + 1) 0 above (spot 1 (above + 1)) (omega arith) (at_there code plan (place + 7) (place + 1 + 1 + 1 + 1 + 1 + 1 + 1) 0 above (omega arith) end);
       } in
       (argument, (asks, (test, (submit, (over, (call, (dropped, tt)))))))
 
@@ -256,9 +256,9 @@ module _ (code : Code) (functions : List Function) (plan : List Spot) where
       let end' = at_there code plan (place + length (head ++ cs)) out 0 above (omega (arith, length_head, length-append head cs)) end in
       let at_first = statement_at s first above back end' in
       let jump : IsFine code plan mid (spot 1 (high + 1)) test = record {
-          finds = omega arith;
-          names = tt;
-          goes_on = (leads_at code plan out 0 above (spot 1 (high + 1)) (omega arith) end', leads_at code plan first 0 high (spot 1 (high + 1)) (omega arith) at_first);
+        finds = omega arith;
+        names = tt;
+        goes_on = (leads_at code plan out 0 above (spot 1 (high + 1)) (omega arith) end', leads_at code plan first 0 high (spot 1 (high + 1)) (omega arith) at_first);
       } in
       both_fine code plan place heads rs head cs (test_fine line e place high test [] front (λ stands. (jump, tt))) (subst (λ p. AllFine code plan p rs cs) (sym there) (body first above back end'))
 
@@ -301,14 +301,14 @@ module _ (code : Code) (functions : List Function) (plan : List Spot) where
       let at_jump : At code plan behind_s 0 rank = (spot 0 rank, stand_jump.0, refl, omega arith) in
       let at_first = statement_at s first rank stand_s at_jump in
       let tested : IsFine code plan mid (spot 1 (high + 1)) test = record {
-          finds = omega arith;
-          names = tt;
-          goes_on = (leads_at code plan second 0 (above + length co) (spot 1 (high + 1)) (omega arith) at_second, leads_at code plan first 0 high (spot 1 (high + 1)) (omega arith) at_first);
+        finds = omega arith;
+        names = tt;
+        goes_on = (leads_at code plan second 0 (above + length co) (spot 1 (high + 1)) (omega arith) at_second, leads_at code plan first 0 high (spot 1 (high + 1)) (omega arith) at_first);
       } in
       let jumps : IsFine code plan behind_s (spot 0 rank) (ops.Jump out) = record {
-          finds = omega arith;
-          names = tt;
-          goes_on = leads_at code plan out 0 above (spot 0 rank) (omega arith) end';
+        finds = omega arith;
+        names = tt;
+        goes_on = leads_at code plan out 0 above (spot 0 rank) (omega arith) end';
       } in
       both_fine code plan place (heads ++ rs ++ ss) ro (head ++ cs ++ over) co
       (both_fine code plan place (heads ++ rs) ss (head ++ cs) over
@@ -349,19 +349,19 @@ module _ (code : Code) (functions : List Function) (plan : List Spot) where
       let at_place = first_at place above ce test last front in
       let turn = spot 0 (above + 1) in
       let jumps : IsFine code plan behind_s (spot 0 rank) (ops.Jump place) = record {
-          finds = omega arith;
-          names = tt;
-          goes_on = leads_at code plan place 0 (above + length (ce ++ test ∷ last)) (spot 0 rank) (omega (arith, length_test)) at_place;
+        finds = omega arith;
+        names = tt;
+        goes_on = leads_at code plan place 0 (above + length (ce ++ test ∷ last)) (spot 0 rank) (omega (arith, length_test)) at_place;
       } in
       both_fine code plan place (heads ++ rs) ss (head ++ cs) back
       (both_fine code plan place heads rs head cs (test_fine line e place above test last front (λ stands.
-          let jump : IsFine code plan mid (spot 1 (above + 2)) test = record {
-              finds = omega arith;
-              names = tt;
-              goes_on = (leads_at code plan out 0 above (spot 1 (above + 2)) (omega arith) end', leads_at code plan (mid + 1) 0 (above + 1) (spot 1 (above + 2)) (omega arith) (turn, stands.1.0, refl, omega arith));
-          } in
-          let turns : IsFine code plan (mid + 1) turn ops.Turn = record { finds = omega arith; names = tt; goes_on = (at_first.0, at_first.1, at_first.2) } in
-          (jump, (turns, tt)))) (subst (λ p. AllFine code plan p rs cs) (sym there) (body first rank stand_s at_jump)))
+      let jump : IsFine code plan mid (spot 1 (above + 2)) test = record {
+        finds = omega arith;
+        names = tt;
+        goes_on = (leads_at code plan out 0 above (spot 1 (above + 2)) (omega arith) end', leads_at code plan (mid + 1) 0 (above + 1) (spot 1 (above + 2)) (omega arith) (turn, stands.1.0, refl, omega arith));
+      } in
+      let turns : IsFine code plan (mid + 1) turn ops.Turn = record { finds = omega arith; names = tt; goes_on = (at_first.0, at_first.1, at_first.2) } in
+      (jump, (turns, tt)))) (subst (λ p. AllFine code plan p rs cs) (sym there) (body first rank stand_s at_jump)))
       (subst (λ p. AllFine code plan p ss back) (sym there_one) (jumps, tt))
 
   module _ (scope : Scope) (callable : (f : ℕ) → f < scope.functions → IsCallable code (is_task_there (slice_get functions f)) f) where
