@@ -11,7 +11,6 @@ use Rattle.css_vm.specs.Code.{Routine, Code, first_line}
 use Rattle.css_vm.specs.Cells.{cell_of, int_of}
 use Rattle.css_vm.specs.Machine as machine
 use Rattle.css_vm.specs.Machine.{Halt, Finished, Begin, At, On, on_function, entered, beginning, entry_line, main_ends, body_ends, go_on, exec, target}
-use Rattle.css_vm.specs.Soundness.{Spot, IsSound}
 use Rattle.css_small.specs.Tree.{Function, Program}
 use Rattle.css_small.specs.Numbers.{IsNumbered, HasNumbers}
 use Rattle.css_small_code.specs.Code.{statements_code, end_code, entry_code, body_code, function_code, main_code, program_code}
@@ -25,6 +24,7 @@ use Rattle.css_small_code.proofs.Exits.{Exiting, activation_at}
 use Rattle.css_small_code.proofs.FirstLines.{entry_if}
 use Rattle.css_small_code.proofs.Calls.{held_at, body_stands, body_runs, applied_runs, function_runs, calls_run}
 use Rattle.css_small_code.proofs.CellsMemory.{int_of-cell}
+use Rattle.css_small_code.proofs.Sound.{plans_of, is_sound}
 use Rattle.css_small_code.proofs.Results.{ExitsInt, main_exits}
 
 -- ---- where functions are found
@@ -148,6 +148,5 @@ module _ (p : Program) (numbers : HasNumbers p) where
       let code = program_code p in
       same_dialogue w code (Begin k (argument ∷ []) line) (body_ends w (machine.frame_of (slice_get code.functions k))) (λ fuel. alone w fuel f (argument ∷ []) line) cell_of (λ n. alone_runs p numbers w k f argument line n found)
 
-  -- by plans of its soundness
-  pub codes_by : (plans : List (List Spot)) → IsSound (program_code p) plans → Codes (program_code p) p
-  codes_by plans sound = record { sound = (plans, sound); main = main_same; functions = alone_same }
+  pub codes : Codes (program_code p) p
+  codes = record { sound = (plans_of p, is_sound p numbers); main = main_same; functions = alone_same }
