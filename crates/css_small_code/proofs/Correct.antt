@@ -4,7 +4,7 @@ use Rattle.std.specs.Prelude.{slice_get}
 use Rattle.std.proofs.lemmas.Bool.{eqb-true}
 use Rattle.css_base.specs.declared.int_type.IntType.TheVariants.{Int}
 use Rattle.css_num.specs.Types.{IsInRange}
-use Rattle.css_semantics.specs.Dialogue.{Leave, End, Tape, World, Outcome, Goes, Stops, then_do, ask}
+use Rattle.css_semantics.specs.Dialogue.{Leave, Returns, End, Tape, World, Outcome, Goes, Stops, then_do, ask}
 use Rattle.css_vm.specs.declared.code.Instr.{Instr}
 use Rattle.css_vm.specs.declared.code.Op.TheVariants as ops
 use Rattle.css_vm.specs.Code.{Routine, Code, first_line}
@@ -87,6 +87,16 @@ module _ (p : Program) (numbers : HasNumbers p) (w : World) where
   known_at : (k : ℕ) (f : Function) → slice_get p.functions k ≡ Some f → IsNumbered 0 f
   known_at k f found = (held_at (λ f. (f.parameters ≡ 1) × IsNumbered 0 f) p.functions k f found numbers.functions).1
 
+  -- the last actions of a function alone
+  alone_ends_runs : (n k frame : ℕ) (exit : Exit) (t : Tape) → machine.frame_of (slice_get code.functions k) ≡ frame → Runs n (λ j. body_ends w (machine.frame_of (slice_get code.functions k)) (Finished (cell_of exit.value) exit.base exit.line) t) (Finishes cell_of)
+      (then_do (left w frame exit t) (λ r t'. then_do (ask w Returns exit.line t') (λ r' t''. Goes exit.value t'')))
+  alone_ends_runs n k frame exit t same =
+      let v = exit.value in
+      let last = λ (t' : Tape). then_do (ask w Returns exit.line t') (λ r t''. Goes (Some (cell_of v)) t'') in
+      runs_as (λ j. then_do (left w frame exit t) (λ r t'. last t')) (λ j. ap (λ size. body_ends w size (Finished (cell_of v) exit.base exit.line) t) same)
+      (runs_then (runs_asks {land = λ j r t'. last t'} (left w frame exit t) (λ j. refl)) (λ r t'.
+      runs_then (runs_asks {land = λ j r t''. Goes (Some (cell_of v)) t''} (ask w Returns exit.line t') (λ j. refl)) (λ r' t''. runs_done n (Finishes cell_of) v t'')))
+
   alone_runs : (k : ℕ) (f : Function) (argument line n : ℕ) → slice_get p.functions k ≡ Some f → Runs n (machine.alone w code k (argument ∷ []) line) (Finishes cell_of) (alone w n f (argument ∷ []) line)
   alone_runs k f argument line n found =
       let ends = body_ends w (machine.frame_of (slice_get code.functions k)) in
@@ -94,9 +104,7 @@ module _ (p : Program) (numbers : HasNumbers p) (w : World) where
       let call = calls w [] n in
       let begun = begins_runs w code k (function_code f) (argument ∷ []) line n (applied w call n f (argument ∷ []) line []) ends (there k f found)
       (function_runs w code p.functions numbers.functions there k false [] f call n argument argument line [] found (known_at k f found) refl) in
-      runs_then begun (λ exit t.
-      let leaves = left w (frame_of f) exit t in
-      runs_asks (then_do leaves (λ r t'. Goes exit.value t')) (λ j. ap (λ size. body_ends w size (Finished (cell_of exit.value) exit.base exit.line) t) frame ∙ sym (then_assoc leaves (λ r t'. Goes exit.value t') (λ v t'. Goes (Some (cell_of v)) t'))))
+      runs_then begun (λ exit t. alone_ends_runs n k (frame_of f) exit t frame)
 
   -- ---- main
 

@@ -4,3 +4,4 @@ pub mod Correct
 pub mod Fuel
 pub mod Lines
 pub mod Places
+pub mod Samples

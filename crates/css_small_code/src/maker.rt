@@ -34,3 +34,6 @@ fn functions_of(alloc: Global, trees: &[css_small::Function]) -> Result<Vec<Func
     }
     Ok(functions)
 }
+
+#[cfg(test)]
+mod tests;
