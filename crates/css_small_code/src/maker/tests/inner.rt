@@ -15,7 +15,8 @@ const AS_INT: Op = Op::Conv(Narrow::S32);
 pub fn functions_of(alloc: Global) -> Result<Vec<Function>, AllocError>
     ensures { IfOk result (λ fs. (length fs.items ≡ 2) × All (λ f. (f.parameters ≡ 1) × IsNumbered 0 f) (map function fs.items)) }
 {
-    vec![in alloc; adding(alloc)?, copying(alloc)?]
+    let functions = vec![in alloc; adding(alloc)?, copying(alloc)?]?;
+    Ok(functions)
 }
 
 fn element(alloc: Global, index: Expression) -> Result<Expression, AllocError>
