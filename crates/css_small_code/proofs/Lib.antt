@@ -1,8 +1,10 @@
 pub mod ExpressionHeights
+pub mod Grows
 pub mod Heights
 pub mod Inner
 pub mod Inside
 pub mod Lines
+pub mod MoreFuel
 pub mod Places
 pub mod Sound
 pub mod Spots
