@@ -7,6 +7,7 @@ pub mod Lines
 pub mod MoreFuel
 pub mod Places
 pub mod Sound
+pub mod Spending
 pub mod Spots
 pub mod Stands
 pub mod StatementSpots
