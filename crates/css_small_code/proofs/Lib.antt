@@ -1,3 +1,4 @@
+pub mod EnoughFuel
 pub mod ExpressionHeights
 pub mod Grows
 pub mod Heights

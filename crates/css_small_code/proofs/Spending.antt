@@ -1,17 +1,19 @@
 -- While a dialogue is inside a part of a world where each turn and each entry takes a unit, a fuel of more than the units that are left
 -- is never spent.
-use Rattle.std.proofs.Common.{◌≡◌, ℕ, zero, suc, ◌+◌, ◌<◌, ◌≤◌, ℤ, pos, Bool, true, false, Option, Some, None, if◌then◌else◌, List, [], ◌∷◌, refl, arith}
-use Rattle.std.specs.Prelude.{slice_get}
+use Rattle.std.proofs.Common.{◌≡◌, ℕ, zero, suc, ◌+◌, ◌<◌, ◌≤◌, ℤ, pos, Bool, true, false, Option, Some, None, if◌then◌else◌, List, [], ◌∷◌, length, refl, subst, arith}
 use Rattle.css_base.specs.declared.int_type.IntType.TheVariants.{Int}
 use Rattle.css_num.specs.Conversion.{modulo, representation, converted}
-use Rattle.css_semantics.specs.Dialogue.{Action, Enter, Turn, Leave, Load, Store, Out, Calls, Returns, Item, item, Reply, Says, Fails, Refuses, World, Tape, Outcome, Goes, Stops, Stopped, Tired, then_do, replied, ask}
+use Rattle.css_semantics.specs.Dialogue as dialogue
+use Rattle.css_semantics.specs.Dialogue.{Action, Enter, Turn, Leave, Load, Store, Out, Calls, Returns, End, Item, item, Reply, Says, Fails, Refuses, World, Tape, Outcome, Goes, Stops, Stopped, Tired, then_do, replied, ask}
 use Rattle.css_semantics.specs.Memory.{big_endian_bytes}
+use Rattle.css_semantics.specs.Tasks.{is_started}
 use Rattle.css_small.specs.declared.tree.Directive.{Directive}
 use Rattle.css_small.specs.declared.tree.Directive.TheVariants as directives
 use Rattle.css_small.specs.Tree as tree
-use Rattle.css_small.specs.Tree.{Expression, Number, Variable, Element, Unary, Binary, And, Or, Statement, Declare, Initialise, Empty, Assign, AssignElement, Call, Mark, Put, Return, Block, If, IfElse, While, Statements, More, Function}
-use Rattle.css_small.specs.Numbers.{Scope, AreWithin, AllWithin}
-use Rattle.css_small_code.specs.Meaning.{address_of, element_of, given, is_true, load, store, pointer, element_at, value_of, element, Flow, Next, Returned, on_next, turning, Calling, action_of, assigned, element_assigned, meaning, meanings, Exit, exit_by, stores, applied, left, plain_call, frame_of}
+use Rattle.css_small.specs.Tree.{Expression, Number, Variable, Element, Unary, Binary, And, Or, Statement, Declare, Initialise, Empty, Assign, AssignElement, Call, Mark, Put, Return, Block, If, IfElse, While, Statements, More, Function, Program}
+use Rattle.css_small.specs.Numbers.{Scope, AreWithin, AllWithin, HasNumbers}
+use Rattle.css_small_code.specs.Meaning.{address_of, element_of, given, is_true, load, store, pointer, element_at, value_of, element, Flow, Next, Returned, on_next, turning, Calling, action_of, assigned, element_assigned, meaning, meanings, Exit, exit_by, stores, applied, left, plain_call, calls, finished, main_left, frame_of, source}
+use Rattle.css_small_code.proofs.Places.{scope_of}
 
 -- neither the call of a task nor its return
 abbrev pub IsPlain : Action → Type 0
@@ -42,10 +44,14 @@ module _ (IsIn : Tape → Type 0) (units_at : Tape → ℕ) where
   Takes tape (Stops (Stopped stop line) t) = Unit {0}
   Takes tape (Stops Tired t) = ⊥
 
+  -- the same behind an older tape
+  pub ends_reply_from : (reply : Reply) (i : Item) (mid tape : Tape) → ((value : ℕ) → reply ≡ Says value → IsIn (i ∷ mid) × (units_at (i ∷ mid) ≤ units_at tape)) → Ends tape (replied reply i mid)
+  ends_reply_from (Says value) i mid tape h = h value refl
+  ends_reply_from Fails i mid tape h = tt
+  ends_reply_from (Refuses rule) i mid tape h = tt
+
   pub ends_reply : (reply : Reply) (i : Item) (tape : Tape) → ((value : ℕ) → reply ≡ Says value → IsIn (i ∷ tape) × (units_at (i ∷ tape) ≤ units_at tape)) → Ends tape (replied reply i tape)
-  ends_reply (Says value) i tape h = h value refl
-  ends_reply Fails i tape h = tt
-  ends_reply (Refuses rule) i tape h = tt
+  ends_reply reply i tape h = ends_reply_from reply i tape tape h
 
   pub takes_reply : (reply : Reply) (i : Item) (tape : Tape) → ((value : ℕ) → reply ≡ Says value → IsIn (i ∷ tape) × (units_at (i ∷ tape) < units_at tape)) → Takes tape (replied reply i tape)
   takes_reply (Says value) i tape h = h value refl
@@ -198,3 +204,25 @@ module _ (IsIn : Tape → Type 0) (units_at : Tape → ℕ) where
         Ends tape (plain_call w call fuel f argument line tape)
     ends_plain_call call scope fuel ends_call f within argument line tape is few =
         ends_then (applied w call fuel f (argument ∷ []) line tape) (left w (frame_of f)) tape (ends_applied call scope fuel ends_call f within (argument ∷ []) line tape is few) (λ exit t is le. ends_left (frame_of f) exit t is)
+
+    -- ---- main
+
+    ends_main_left : (frame : ℕ) (exit : Exit) (tape : Tape) → IsIn tape → Ends tape (main_left w frame exit tape)
+    ends_main_left frame exit tape is =
+        let result = λ (r : ℕ) (t : Tape). Goes exit.value t in
+        let ends = λ (r : ℕ) (t : Tape). then_do (ask w (End exit.value) exit.line t) result in
+        ends_then (finished w exit.line tape) (λ r t. then_do (left w frame exit t) ends) tape
+        (ends_if (is_started tape) (ask w dialogue.Finish exit.line tape) (Goes 0 tape) tape (spends.asks dialogue.Finish exit.line tape tt is) (stays tape is)) (λ r t is le.
+        ends_then (left w frame exit t) ends t (ends_left frame exit t is) (λ r' t' is le'.
+        ends_then (ask w (End exit.value) exit.line t') result t' (spends.asks (End exit.value) exit.line t' tt is) (λ r'' t'' is le''. stays t'' is)))
+
+    -- a program is never tired if its calls end, by as much fuel as there are units at first
+    pub ends_source : (p : Program) (fuel : ℕ) → HasNumbers p → CallsEnd (length p.functions) fuel (calls w p.functions fuel) → IsIn [] → units_at [] ≤ fuel → Ends [] (source w fuel p)
+    ends_source p fuel numbers ends_call is few =
+        let scope = scope_of (length p.functions) p.main in
+        let call = calls w p.functions fuel in
+        ends_then (applied w call fuel p.main [] p.main.line []) (main_left w (frame_of p.main)) []
+        (ends_applied call scope fuel ends_call p.main numbers.main.2.within [] p.main.line [] is few) (λ exit t is le. ends_main_left (frame_of p.main) exit t is)
+
+  pub not_tired : {A : Type 0} (o : Outcome A) (start tape : Tape) → Ends start o → o ≡ Stops Tired tape → ⊥
+  not_tired o start tape h e = subst (Ends start) e h
