@@ -127,7 +127,7 @@ module _ (limits : Limits) where
 
   -- a task's units grow by its actions
   task_counts : (units : ℕ) (action : Action) (line : ℕ) (tape : Tape) → IsPlain action → (is : IsTask units tape) → used (body (item action line ∷ tape)) ≡ is.0.units + unit_of action
-  task_counts units action line tape plain is = ap used (task_stays units action line tape plain is).1
+  task_counts units action line tape plain is = ap used (ap (λ b. body_after b action) is.1 ∙ some_after is.0 action plain)
 
   main_spends : Spends IsMain main_left w
   main_spends = record {

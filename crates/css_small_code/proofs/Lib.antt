@@ -1,4 +1,5 @@
 pub mod EnoughFuel
+pub mod EnoughJudged
 pub mod ExpressionHeights
 pub mod Grows
 pub mod Heights
@@ -13,3 +14,4 @@ pub mod Spots
 pub mod Stands
 pub mod StatementSpots
 pub mod StatementsFine
+pub mod Verdicts

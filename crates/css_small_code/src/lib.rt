@@ -4,5 +4,5 @@
 mod laws;
 mod maker;
 
-pub use laws::more_fuel;
+pub use laws::{enough_fuel, enough_fuel_judged, more_fuel, one_verdict, program_has_verdict};
 pub use maker::make_code;
