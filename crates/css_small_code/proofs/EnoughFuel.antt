@@ -1,6 +1,6 @@
 -- In the flat world each turn and each entry takes a unit, so a fuel of one more than there are units is never spent.
-use Rattle.std.proofs.Common.{◌≡◌, ℕ, zero, suc, ◌+◌, ◌-◌, ◌<◌, ◌≤◌, ◌&&◌, Some, [], ◌∷◌, length, refl, sym, subst, arith}
-use Rattle.css_semantics.specs.Dialogue.{Action, Enter, Turn, Calls, Returns, item, Reply, Says, Fails, Refuses, World, Tape, Outcome, Stops, Tired, then_do, ask}
+use Rattle.std.proofs.Common.{◌≡◌, ℕ, zero, suc, ◌+◌, ◌<◌, ◌≤◌, ◌&&◌, Some, [], ◌∷◌, length, sym, subst, arith}
+use Rattle.css_semantics.specs.Dialogue.{Action, Enter, Turn, Calls, Returns, item, Reply, Says, Fails, Refuses, World, Tape, Stops, Tired, then_do, ask}
 use Rattle.css_semantics.specs.Worlds.{state_after}
 use Rattle.css_semantics.specs.Memory.{Memory, after}
 use Rattle.css_semantics.specs.Units.{Metered, with_units, within, spending}

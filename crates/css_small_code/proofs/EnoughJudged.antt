@@ -4,17 +4,17 @@ use Rattle.std.specs.List.{AllByRecursion}
 use Rattle.std.proofs.lemmas.Bool.{leb-false}
 use Rattle.css_base.specs.declared.limits.Limits.{Limits}
 use Rattle.css_base.specs.declared.rule.Rule.{Rule}
-use Rattle.css_semantics.specs.Dialogue.{Action, Enter, Turn, Calls, Returns, Item, item, Reply, Says, Fails, Refuses, World, Tape, Outcome, Goes, Stops, Stopped, Tired, then_do, replied, ask}
+use Rattle.css_semantics.specs.Dialogue.{Action, Enter, Turn, Calls, Returns, item, Reply, Says, Fails, Refuses, World, Tape, Outcome, Goes, Stops, Stopped, Tired, then_do, replied, ask}
 use Rattle.css_semantics.specs.Memory.{Memory, memory_after}
 use Rattle.css_semantics.specs.Flat.{no_frames, in_memory}
 use Rattle.css_semantics.specs.Tasks.{Body, unit_of, body_behind, body_after, body, is_started, main_units}
-use Rattle.css_semantics.specs.Rules.{wants_unit, Check, checks_of_main, checks_of_task, first_broken, hit, judged_reply, judged}
+use Rattle.css_semantics.specs.Rules.{wants_unit, Check, checks_of_main, checks_of_task, first_broken, hit, judged_reply}
 use Rattle.css_semantics.specs.Verdict.{judged_in}
 use Rattle.css_small.specs.Tree.{Function, Program}
 use Rattle.css_small.specs.Numbers.{IsNumbered, HasNumbers}
-use Rattle.css_small_code.specs.Meaning.{Calling, Exit, applied, left, plain_call, task_call_of, task_body, called, calls, frame_of, source}
+use Rattle.css_small_code.specs.Meaning.{Calling, applied, left, plain_call, task_call_of, task_body, called, calls, frame_of, source}
 use Rattle.css_small_code.proofs.Places.{scope_of, item_at, holds_at}
-use Rattle.css_small_code.proofs.Spending.{IsPlain, TakesUnit, Ends, ends_reply_from, ends_reply, takes_reply, ends_then, ends_if, Spends, CallsEnd, ends_applied, ends_left, ends_plain_call, ends_source, not_tired}
+use Rattle.css_small_code.proofs.Spending.{IsPlain, TakesUnit, Ends, ends_reply_from, ends_reply, takes_reply, ends_if, Spends, CallsEnd, ends_applied, ends_left, ends_plain_call, ends_source, not_tired}
 
 -- ---- what is done breaks no rule
 

@@ -1,6 +1,6 @@
 -- A tape only grows.
-use Rattle.std.proofs.Common.{◌≡◌, ℕ, zero, suc, ◌+◌, ℤ, pos, Bool, true, false, ◌&&◌, Option, Some, None, if◌then◌else◌, List, [], ◌∷◌, ◌++◌, refl, sym, ap, ◌∙◌, append_assoc}
-use Rattle.std.specs.Prelude.{◌*◌, slice_get}
+use Rattle.std.proofs.Common.{◌≡◌, ℕ, zero, suc, ◌+◌, ℤ, Bool, true, false, ◌&&◌, Option, Some, None, if◌then◌else◌, List, [], ◌∷◌, ◌++◌, refl, sym, ap, ◌∙◌, append_assoc}
+use Rattle.std.specs.Prelude.{slice_get}
 use Rattle.css_base.specs.declared.ending.FaultKind.TheVariants.{DivideByZero, OutsideMemory}
 use Rattle.css_semantics.specs.Dialogue as dialogue
 use Rattle.css_semantics.specs.Dialogue.{Action, Enter, Turn, Leave, Calls, Returns, Fault, End, Item, item, Reply, Says, Fails, Refuses, World, Tape, Outcome, Goes, Stops, Tired, tape_of, then_do, replied, ask}

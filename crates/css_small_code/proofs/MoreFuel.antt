@@ -1,13 +1,13 @@
 -- More fuel only goes on where less ends.
-use Rattle.std.proofs.Common.{◌≡◌, ℕ, zero, suc, ◌+◌, ◌≤◌, ℤ, Bool, true, false, ◌&&◌, Option, Some, None, if◌then◌else◌, List, [], ◌∷◌, ◌++◌, refl, sym, ap, subst, arith}
+use Rattle.std.proofs.Common.{ℕ, zero, suc, ◌≤◌, ℤ, Bool, true, false, ◌&&◌, Option, Some, None, if◌then◌else◌, List, [], ◌∷◌, refl, sym, ap, subst, arith}
 use Rattle.std.specs.Prelude.{slice_get}
 use Rattle.css_semantics.specs.Dialogue.{Enter, Turn, Calls, World, Tape, Outcome, Goes, Stops, Stopped, Tired, then_do, ask}
 use Rattle.css_semantics.specs.Tasks.{is_started}
 use Rattle.css_small.specs.Tree as tree
 use Rattle.css_small.specs.Tree.{Statement, Declare, Initialise, Empty, Assign, AssignElement, Call, Mark, Put, Return, Block, If, IfElse, While, Statements, More, Function, Program}
-use Rattle.css_small_code.specs.Meaning.{is_true, value_of, Flow, Next, Returned, on_next, turning, Calling, address_of, meaning, meanings, Exit, exit_by, stores, applied, left, plain_call, task_call_of, task_body, called, calls, main_left, frame_of, source}
+use Rattle.css_small_code.specs.Meaning.{is_true, value_of, Flow, Next, Returned, on_next, turning, Calling, address_of, meaning, meanings, exit_by, stores, applied, left, plain_call, task_call_of, task_body, called, calls, main_left, frame_of, source}
 use Rattle.css_small_code.specs.Fuel.{Extends}
-use Rattle.css_small_code.proofs.Grows.{Grows, grows_then, grows_if, grows_ask, grows_value, grows_next, grows_turning, CallsGrow, grows_meaning, grows_meanings, grows_stores, grows_applied_from, grows_applied, grows_left, grows_returns, grows_plain_call, grows_task_body, grows_calls, grows_main_left}
+use Rattle.css_small_code.proofs.Grows.{Grows, grows_then, grows_if, grows_ask, grows_value, grows_next, grows_turning, CallsGrow, grows_meaning, grows_meanings, grows_stores, grows_applied_from, grows_left, grows_returns, grows_task_body, grows_calls, grows_main_left}
 
 extends_same : {A : Type 0} (o : Outcome A) → Extends o o
 extends_same (Goes a t) = refl

@@ -3,3 +3,4 @@ pub mod Code
 pub mod Correct
 pub mod Fuel
 pub mod Lines
+pub mod Rows
