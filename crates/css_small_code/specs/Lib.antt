@@ -4,3 +4,5 @@ pub mod Correct
 pub mod Fuel
 pub mod Lines
 pub mod Rows
+pub mod Places
+pub mod Samples
