@@ -9,10 +9,13 @@ pub mod Correct
 pub mod Emitted
 pub mod EmittedStatements
 pub mod Ends
+pub mod EnoughFuel
+pub mod EnoughJudged
 pub mod Exits
 pub mod ExpressionHeights
 pub mod ExpressionRuns
 pub mod FirstLines
+pub mod Grows
 pub mod Heights
 pub mod InRange
 pub mod Inner
@@ -20,12 +23,14 @@ pub mod Inside
 pub mod LineStands
 pub mod Lines
 pub mod Made
+pub mod MoreFuel
 pub mod OperatorSteps
 pub mod Operators
 pub mod Places
 pub mod Results
 pub mod Runs
 pub mod Sound
+pub mod Spending
 pub mod Spots
 pub mod Stands
 pub mod StatementRuns
@@ -36,3 +41,4 @@ pub mod Straight
 pub mod StraightFaults
 pub mod StraightSteps
 pub mod Trees
+pub mod Verdicts

@@ -1,8 +1,14 @@
 -- The items of a list of functions with main behind them.
-use Rattle.std.proofs.Common.{◌≡◌, ℕ, zero, suc, ◌<◌, List, [], ◌∷◌, ◌++◌, length, map, Some, refl, ap, subst, ◌⊎◌, inl, inr, ⊎_elim, arith}
+use Rattle.std.proofs.Common.{◌≡◌, ℕ, zero, suc, ◌+◌, ◌<◌, List, [], ◌∷◌, ◌++◌, length, map, Some, refl, ap, subst, ◌⊎◌, inl, inr, ⊎_elim, arith}
 use Rattle.std.specs.Prelude.{All, slice_get}
 use Rattle.std.proofs.lemmas.List.Elements.{All-head, All-tail}
 use Rattle.std.proofs.lemmas.Option.{same_Some}
+use Rattle.css_small.specs.Tree.{Function}
+use Rattle.css_small.specs.Numbers.{Scope}
+
+-- the scope of a function that knows so many others
+abbrev pub scope_of : ℕ → Function → Scope
+scope_of functions f = record { parameters = f.parameters; objects = f.parameters + f.variables; functions = functions }
 
 -- the item is one that was mapped, or the last
 pub which : {A B : Type 0} (g : A → B) (last : B) (xs : List A) (k : ℕ) (b : B) → slice_get (map g xs ++ last ∷ []) k ≡ Some b → ((x : A) × (slice_get xs k ≡ Some x) × (g x ≡ b)) ⊎ ((k ≡ length xs) × (last ≡ b))

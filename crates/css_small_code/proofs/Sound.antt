@@ -17,7 +17,7 @@ use Rattle.css_small_code.proofs.Spots.{spot, AllAtMost, both_at_most, BeginsEmp
 use Rattle.css_small_code.proofs.StatementSpots.{length_both, spots_of_all, length-spots_of_all, spots_within_all, spots_of_all-begin}
 use Rattle.css_small_code.proofs.StatementsFine.{IsCallable, second_stands, statements_fine}
 use Rattle.css_small_code.proofs.Inner.{IsInner, parts_inner, statements_inner}
-use Rattle.css_small_code.proofs.Places.{which, mapped_at, last_at, item_at, holds_at}
+use Rattle.css_small_code.proofs.Places.{scope_of, which, mapped_at, last_at, item_at, holds_at}
 
 -- ---- a body's plan
 
@@ -149,10 +149,6 @@ plan_of_main p = plan_of_body (program_code p) p.functions p.main (begins_within
 
 abbrev pub plans_of : Program → List (List Spot)
 plans_of p = map (plan_of_function p) p.functions ++ plan_of_main p ∷ []
-
--- the scope of a function that knows so many others
-abbrev scope_of : ℕ → Function → Scope
-scope_of functions f = record { parameters = f.parameters; objects = f.parameters + f.variables; functions = functions }
 
 -- a function that may be called, as a task where it is one
 called_alone : (p : Program) (k : ℕ) (f : Function) → slice_get p.functions k ≡ Some f → (is_task : Bool) → f.is_task ≡ is_task → IsCallable (program_code p) is_task k
