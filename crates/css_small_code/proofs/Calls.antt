@@ -1,8 +1,6 @@
 -- The machine follows functions, and calls of them.
 use Rattle.std.proofs.Common.{◌≡◌, ℕ, zero, suc, ◌+◌, ◌*◌, ◌%◌, ◌^◌, ◌<◌, ◌≤◌, pos, Bool, true, false, ◌&&◌, if◌then◌else◌, List, [], ◌∷◌, ◌++◌, length, All, Option, Some, None, refl, sym, ap, ◌∙◌, subst, arith, length-append}
 use Rattle.std.specs.Prelude.{slice_get}
-use Rattle.std.proofs.lemmas.Option.{get_or_from_slice_get, slice_get_within}
-use Rattle.std.proofs.lemmas.List.Elements.{All-get_or}
 use Rattle.std.proofs.lemmas.Bool.{le-leb}
 use Rattle.css_semantics.specs.Memory.{big_endian_bytes}
 use Rattle.css_semantics.specs.Tasks.{is_started}
@@ -21,6 +19,7 @@ use Rattle.css_small_code.specs.Code.{statements_code, end_code, call_code, is_t
 use Rattle.css_small_code.specs.Meaning as meaning
 use Rattle.css_small_code.specs.Meaning.{place_of, address_of, frame_of, meanings, Calling, Exit, exit_by, applied, left, plain_call, task_call_of, task_body, calls}
 use Rattle.css_small_code.proofs.Runs.{Run, Landing, Runs, runs_done, runs_fewer, runs_counted, runs_as, runs_asks, runs_then, runs_behind, then_assoc}
+use Rattle.css_small_code.proofs.Places.{scope_of, item_at, holds_at}
 use Rattle.css_small_code.proofs.Stands.{Stands, stands_front, stands_back, stands_whole}
 use Rattle.css_small_code.proofs.LineStands.{OpsStand}
 use Rattle.css_small_code.proofs.Steps.{Running, state, From, OpAt, effect_at, one_step, runs_quiet}
@@ -40,10 +39,6 @@ body_stands functions f entry =
     let here : 0 + length entry ≡ length entry = omega arith in
     let there : 0 + length (entry ++ body) ≡ at + length body = omega (arith, length-append entry body) in
     (stands_front all 0 entry body front, subst (λ k. Stands all k body) here (stands_back all 0 entry body front), subst (λ k. Stands all k last) there (stands_back all 0 (entry ++ body) last whole))
-
--- what a function may name
-abbrev pub scope_of : (functions : ℕ) → Function → Scope
-scope_of functions f = record { parameters = f.parameters; objects = f.parameters + f.variables; functions = functions }
 
 module _ (w : World) (code : Code) where
   -- a function's body behind its entry's code, where calls run
@@ -75,23 +70,12 @@ module _ (w : World) (code : Code) where
       (runs_asks {land = λ k base t'. then_do (then_do (stored base t') (λ r' t''. Goes base t'')) (starts k)} (enters (frame_of f)) (λ k. asked k ∙ ap (λ size. then_do (enters size) (λ base t'. then_do (then_do (stored base t') (λ r' t''. Goes base t'')) (starts k))) frame))
       (λ base t'. runs_then (runs_asks {land = λ k r' t''. starts k base t''} (meaning.stores w base 0 arguments line t') (λ k. then_assoc (stored base t') (λ r' t''. Goes base t'') (starts k) ∙ ap (λ o. then_do o (λ r' t''. starts k base t'')) (same base t'))) (λ r' t''. body base t''))
 
--- what holds of each function, of one that is found
-pub held_at : (Holds : Function → Type 0) (all : List Function) (number : ℕ) (f : Function) → slice_get all number ≡ Some f → All Holds all → Holds f
-held_at Holds all number f found each =
-    subst Holds (get_or_from_slice_get all number f f found) (All-get_or Holds all number f (slice_get_within all number f found) each)
-
 -- no cells, and one, of those on a stack
 none_of_many : (stack : List ℕ) (t : Tape) (go : List ℕ → List ℕ → Outcome machine.After) → on_many 0 stack t go ≡ go [] stack
 none_of_many stack t go = ap (λ b. if b then go [] stack else machine.stuck t) (le-leb 0 (length stack) (omega arith))
 
 one_of_many : (cell : ℕ) (rest : List ℕ) (t : Tape) (go : List ℕ → List ℕ → Outcome machine.After) → on_many 1 (cell ∷ rest) t go ≡ go (cell ∷ []) rest
 one_of_many cell rest t go = ap (λ b. if b then go (cell ∷ []) rest else machine.stuck t) (le-leb 1 (length (cell ∷ rest)) (omega arith))
-
--- where nothing is found the list is at its end
-none_past : (all : List Function) (number : ℕ) → slice_get all number ≡ None → length all ≤ number
-none_past [] number none = omega arith
-none_past (f ∷ all) zero none = cc
-none_past (f ∷ all) (suc number) none = omega (arith, none_past all number none)
 
 -- no function is named, so each meaning of calls runs
 no_calls : (w : World) (code : Code) (here : Running code) (call : Calling) (functions : List Function) (n : ℕ) → CallsRun w code here call functions 0 n
@@ -270,9 +254,11 @@ module _ (w : World) (code : Code) (functions : List Function) (numbers : All (�
       Runs (suc m) (From w code here place stack t) (λ k' r t'. exec w code k' (state w code here (place + length (call_code (is_task_there g) number k place)) stack) t')
       (meaning.called w (calls w functions m) m number g (address_of here.activation.base k) here.activation.base line t)
   found_runs here m number k line place stack t None found below h =
-      absurd (omega (arith, below, none_past functions number found))
+      let one = item_at functions number below in
+      let none : None ≡ Some one.0 = sym found ∙ one.1 in
+      cc
   found_runs here m number k line place stack t (Some f) found below h =
-      call_runs here number f found (held_at (λ f. (f.parameters ≡ 1) × IsNumbered 0 f) functions number f found numbers).1 m k line place stack t f.is_task refl h
+      call_runs here number f found (holds_at (λ f. (f.parameters ≡ 1) × IsNumbered 0 f) functions number f numbers found).1 m k line place stack t f.is_task refl h
 
   -- what calls of these functions mean, the machine does
   pub calls_run : (n : ℕ) (here : Running code) → CallsRun w code here (calls w functions n) functions (length functions) n

@@ -18,26 +18,15 @@ use Rattle.css_small_code.specs.Meaning.{frame_of, Exit, exit_by, meanings, appl
 use Rattle.css_small_code.specs.Correct.{SameDialogue, Codes}
 use Rattle.css_small_code.proofs.Runs.{Run, Landing, Runs, runs_done, runs_step, runs_as, runs_asks, runs_then, runs_known, runs_ending, then_assoc}
 use Rattle.css_small_code.proofs.Ends.{whole, Finishes, same_dialogue}
+use Rattle.css_small_code.proofs.Places.{mapped_at, last_at, holds_at}
 use Rattle.css_small_code.proofs.Stands.{Stands}
 use Rattle.css_small_code.proofs.Steps.{Running, From, runs_quiet}
 use Rattle.css_small_code.proofs.Exits.{Exiting, activation_at}
 use Rattle.css_small_code.proofs.FirstLines.{entry_if}
-use Rattle.css_small_code.proofs.Calls.{held_at, body_stands, body_runs, applied_runs, function_runs, calls_run}
+use Rattle.css_small_code.proofs.Calls.{body_stands, body_runs, applied_runs, function_runs, calls_run}
 use Rattle.css_small_code.proofs.CellsMemory.{int_of-cell}
 use Rattle.css_small_code.proofs.Sound.{plans_of, is_sound}
 use Rattle.css_small_code.proofs.Results.{ExitsInt, main_exits}
-
--- ---- where functions are found
-
--- the functions of a program, by number, and main behind them
-front_found : (fs : List Function) (main : Routine) (k : ℕ) (f : Function) → slice_get fs k ≡ Some f → slice_get (map function_code fs ++ main ∷ []) k ≡ Some (function_code f)
-front_found [] main k f found = cc
-front_found (g ∷ fs) main zero f found = cc
-front_found (g ∷ fs) main (suc k) f found = front_found fs main k f found
-
-main_found : (fs : List Function) (main : Routine) → slice_get (map function_code fs ++ main ∷ []) (length fs) ≡ Some main
-main_found [] main = refl
-main_found (f ∷ fs) main = main_found fs main
 
 -- ---- the entry
 
@@ -78,14 +67,14 @@ module _ (p : Program) (numbers : HasNumbers p) (w : World) where
   code = program_code p
 
   there : (k : ℕ) (f : Function) → slice_get p.functions k ≡ Some f → slice_get code.functions k ≡ Some (function_code f)
-  there = front_found p.functions (main_code p.functions p.main)
+  there = mapped_at function_code (main_code p.functions p.main) p.functions
 
   main_there : slice_get code.functions code.main ≡ Some (main_code p.functions p.main)
-  main_there = main_found p.functions (main_code p.functions p.main)
+  main_there = last_at function_code (main_code p.functions p.main) p.functions
 
   -- what is known of a function that is there
   known_at : (k : ℕ) (f : Function) → slice_get p.functions k ≡ Some f → IsNumbered 0 f
-  known_at k f found = (held_at (λ f. (f.parameters ≡ 1) × IsNumbered 0 f) p.functions k f found numbers.functions).1
+  known_at k f found = (holds_at (λ f. (f.parameters ≡ 1) × IsNumbered 0 f) p.functions k f numbers.functions found).1
 
   -- the last actions of a function alone
   alone_ends_runs : (n k frame : ℕ) (exit : Exit) (t : Tape) → machine.frame_of (slice_get code.functions k) ≡ frame → Runs n (λ j. body_ends w (machine.frame_of (slice_get code.functions k)) (Finished (cell_of exit.value) exit.base exit.line) t) (Finishes cell_of)
