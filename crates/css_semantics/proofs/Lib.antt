@@ -1,1 +1,2 @@
 pub mod FlatWorld
+pub mod StackPlaces

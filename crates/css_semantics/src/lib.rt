@@ -7,3 +7,9 @@ pub const STACK_LIMIT: u32 = 1_064_960;
 
 /// The most open calls, where pragmas are erased.
 pub const OPEN_CALLS: u32 = 33_792;
+
+/// The most bytes of main's stack in all other runs.
+pub const MAIN_STACK_LIMIT: u32 = 1_048_576;
+
+/// The most open calls of main in all other runs.
+pub const MAIN_OPEN_CALLS: u32 = 32_768;
