@@ -1,6 +1,10 @@
-//! What programs mean: dialogues with a world, and the worlds. The definitions are in `specs/`; here stand the numbers that the
-//! code shares with them.
+//! What programs mean: dialogues with a world, and the worlds. The definitions are in `specs/`; here stand laws about them, and the
+//! numbers that the code shares with them.
 #![tactic(auto)]
+
+mod laws;
+
+pub use laws::{pending_share_no_byte, units_are_within};
 
 /// The most bytes of main's stack, where pragmas are erased.
 pub const STACK_LIMIT: u32 = 1_064_960;
