@@ -1,16 +1,16 @@
-use Rattle.std.proofs.Common.{◌≡◌, ◌+◌, ◌*◌, ◌<◌, ◌≤◌, List, [], ◌∷◌, ◌++◌, length, Err, refl, sym, ap, ◌∙◌, subst, arith}
+use Rattle.std.proofs.Common.{◌≡◌, ◌+◌, ◌*◌, ◌<◌, ◌≤◌, List, [], ◌∷◌, ◌++◌, length, codes, Err, refl, sym, ap, ◌∙◌, subst, arith}
 use Rattle.std.proofs.lemmas.List.{length-map, nil_from_length}
 use Rattle.std.proofs.lemmas.Result.{IfOk-weaker}
 use Rattle.css_base.specs.Tokens.{Lexeme, lexeme, lexemes}
-use Rattle.css_small.specs.Tree.{Unary, expression, height}
+use Rattle.css_small.specs.Tree.{Element, Unary, expression, height}
 use Rattle.css_small.specs.Grammar.{kind_at}
 use Rattle.css_small.specs.Fronts.{Takes, marks}
 use Rattle.css_small.specs.Readings.{leaf, Leaf, ReadsOperand, ReadsExpression}
 use Rattle.css_small.proofs.Exits.{passed}
-use Rattle.css_small.proofs.Enclosures.{one_takes}
+use Rattle.css_small.proofs.Enclosures.{one_takes, one_enclosed}
 use Rattle.css_small.proofs.Readings.{one_primary, one_expression}
-use Rattle.css_small.proofs.Heights.{takes_no_longer, operand_shorter, expression_shorter, height_first, height_positive}
-use Rattle.css_small.proofs.Climbing.{Agrees, agrees_first, agrees_more, agrees_last, high_right, high_whole, operator_shorter, unaries_no_longer, applied, applied-append, height_applied, operand_from, operand_parts, primary_from, primary_parts, leaf_from}
+use Rattle.css_small.proofs.Heights.{next_shorter, takes_no_longer, operand_shorter, expression_shorter, height_first, height_positive}
+use Rattle.css_small.proofs.Climbing.{Agrees, agrees_first, agrees_more, agrees_last, high_right, high_whole, operator_shorter, unaries_no_longer, applied, applied-append, height_applied, operand_from, operand_parts, primary_from, primary_parts, element_from, element_parts, leaf_from}
 use Rattle.css_small.proofs.parser.expressions.+expressions.Goals as goal
 
 -- ---- enclosed
@@ -139,9 +139,22 @@ primary-returns-in-Some-clause-ok t c = IfOk-weaker c.enclosed.result _ _ (λ x 
 pub primary-returns-in-Some-clause-not_spelled : goal.primary-returns-in-Some-clause-not_spelled
 primary-returns-in-Some-clause-not_spelled t c = λ why e rest r. c.enclosed.ensures.not_spelled why e rest (primary_parts c.args.names.now c.in-Some.ensures.found r)
 
+pub primary-subscript-requires : goal.primary-subscript-requires
+primary-subscript-requires t c =
+    let shorter = next_shorter c.in-Some-after_parameter.ensures.found.reads in
+    (omega (arith, length-map c.args.tokens.now lexeme, length-map c.in-Some-after_parameter.behind.now lexeme), tt)
+
+pub primary-returns-in-Some-after_parameter-clause-ok : goal.primary-returns-in-Some-after_parameter-clause-ok
+primary-returns-in-Some-after_parameter-clause-ok t c =
+    IfOk-weaker c.subscript.result _ _ (λ x r. element_from c.args.names.now c.in-Some-after_parameter.ensures.found r) c.subscript.ensures.ok
+
+pub primary-returns-in-Some-after_parameter-clause-not_spelled : goal.primary-returns-in-Some-after_parameter-clause-not_spelled
+primary-returns-in-Some-after_parameter-clause-not_spelled t c = λ why e rest r.
+    c.subscript.ensures.not_spelled why e rest (element_parts c.args.names.now c.in-Some-after_parameter.ensures.found r)
+
 pub primary-returns-in_default-leaf-clause-not_spelled : goal.primary-returns-in_default-leaf-clause-not_spelled
 primary-returns-in_default-leaf-clause-not_spelled t c = λ why e rest r.
-    let x = leaf_from c.args.names.now c.in_default.ensures.none r in
+    let x = leaf_from c.args.names.now c.in_default.ensures.none c.in_default-after_parameter.ensures.none r in
     let parts = x.parts in
     let first = ap lexemes c.in-Some-split_first.ensures.cases.0 in
     let token : x.token ≡ lexeme c.in-Some-split_first.first.now = cc in
@@ -153,3 +166,18 @@ primary-returns-in_default-leaf-clause-not_spelled t c = λ why e rest r.
 pub primary-returns-clause-ok : goal.primary-returns-clause-ok
 primary-returns-clause-ok t c =
     Leaf (lexeme c.in-Some-split_first.first.now) (ap lexemes c.in-Some-split_first.ensures.cases.0) c.in-Some-leaf.ensures.found
+
+-- ---- subscript
+
+pub subscript-returns-in_err-index-clause-not_spelled : goal.subscript-returns-in_err-index-clause-not_spelled
+subscript-returns-in_err-index-clause-not_spelled t c = λ why e rest r.
+    let high = c.in_err-index.ensures.not_spelled (passed c.from_residual.result c.in_err-index.field-0.0 c.from_residual.ensures.1 why) r.index rest r.reads in
+    let whole = ap height r.is in
+    omega arith
+
+pub subscript-returns-in_err-node-clause-not_spelled : goal.subscript-returns-in_err-node-clause-not_spelled
+subscript-returns-in_err-node-clause-not_spelled t c = λ why e rest r.
+    let same = one_enclosed c.args.names.now (marks (codes "[")) (marks (codes "]")) r.reads c.in_ok-index.ensures.ok in
+    let high = c.in_err-node.ensures.not_spelled (passed c.from_residual-in_err-node.result c.in_err-node.field-0.0 c.from_residual-in_err-node.ensures.1 why) in
+    let whole = ap height (r.is ∙ ap Element same.0) in
+    omega arith

@@ -5,16 +5,19 @@ use Rattle.css_small.proofs.Climbing.{Agrees, applied}
 use Rattle.css_small.proofs.parser.expressions.+expressions.Given as goal
 
 abbrev pub decreases-expression : goal.decreases-expression
-decreases-expression l = 4 * length l.tokens.now + 3
+decreases-expression l = 5 * length l.tokens.now + 3
 
 abbrev pub decreases-operand : goal.decreases-operand
-decreases-operand l = 4 * length l.tokens.now + 2
+decreases-operand l = 5 * length l.tokens.now + 2
 
 abbrev pub decreases-primary : goal.decreases-primary
-decreases-primary l = 4 * length l.tokens.now + 1
+decreases-primary l = 5 * length l.tokens.now + 1
 
 abbrev pub decreases-enclosed : goal.decreases-enclosed
-decreases-enclosed l = 4 * length l.tokens.now + 4
+decreases-enclosed l = 5 * length l.tokens.now + 4
+
+abbrev pub decreases-subscript : goal.decreases-subscript
+decreases-subscript l = 5 * length l.tokens.now + 5
 
 abbrev pub invariant-expression-loop-op : goal.invariant-expression-loop-op
 invariant-expression-loop-op l = record {
