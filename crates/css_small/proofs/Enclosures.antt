@@ -4,11 +4,11 @@ use Rattle.std.proofs.lemmas.List.{map-append}
 use Rattle.css_base.specs.Tokens.{Kind, Punctuator, Lexeme}
 use Rattle.css_small.specs.Tree.{Expression}
 use Rattle.css_small.specs.Spelling.{line_of}
-use Rattle.css_small.specs.Grammar.{Names, kind_at, kinds, first_line, Encloses, SpellsExpression}
+use Rattle.css_small.specs.Grammar.{Names, kind_at, kinds, first_line, Encloses, EnclosesTwo, SpellsExpression}
 use Rattle.css_small.specs.Operators.{operator_of}
 use Rattle.css_small.specs.Fronts.{Next, Takes}
 use Rattle.css_small.specs.Readings.{Stops, ReadsExpression, ReadsEnclosed}
-use Rattle.css_small.proofs.Marks.{one_next}
+use Rattle.css_small.proofs.Marks.{one_next, bracket_no_operator, semicolon_no_operator}
 use Rattle.css_small.proofs.Numbering.{AreDifferent}
 use Rattle.css_small.proofs.Readings.{one_expression}
 use Rattle.css_small.proofs.Completeness.{Cut, cut, Head, head_of, stops_at_mark, expression_is_read}
@@ -129,3 +129,96 @@ enclosed_spelled names front back {ts} {rest} {e} r =
         line_is = refl;
       };
     }
+
+-- ---- two expressions: one in brackets, and one behind a sign of equality
+
+-- the kinds before the second one's sign, and those from there on
+between : (front second back : List Kind) (c d : Kind) → ((front ++ c ∷ d ∷ []) ++ second) ++ back ≡ (front ++ c ∷ []) ++ (d ∷ (second ++ back))
+between front second back c d =
+    append_assoc (front ++ c ∷ d ∷ []) second back ∙ ap (λ l. l ++ (second ++ back)) (sym (append_assoc front (c ∷ []) (d ∷ [])))
+    ∙ append_assoc (front ++ c ∷ []) (d ∷ []) (second ++ back)
+
+abbrev pub bracket : List Kind
+bracket = Punctuator (codes "[") ∷ []
+
+abbrev pub closing_bracket : List Kind
+closing_bracket = Punctuator (codes "]") ∷ []
+
+abbrev pub equality : List Kind
+equality = Punctuator (codes "=") ∷ []
+
+abbrev pub end_of_statement : List Kind
+end_of_statement = Punctuator (codes ";") ∷ []
+
+pub record OpenedTwo (names : Names) (kind : Kind) (a b : Expression) (line : ℕ) (ts : List Lexeme) : Type 0 where
+  pub token : Lexeme
+  pub behind : List Lexeme
+  pub parts : ts ≡ token ∷ behind
+  pub kind_is : kind_at token ≡ kind
+  pub line_is : line_of token ≡ line
+  pub reads : (rest : List Lexeme) → (next : List Lexeme) × ReadsEnclosed names bracket closing_bracket (behind ++ rest) a next × ReadsEnclosed names equality end_of_statement next b rest
+
+pub two_reads : (names : Names) → AreDifferent names.objects → {ts : List Lexeme} (kind : Kind) {a b : Expression} {line : ℕ} → EnclosesTwo names ts (kind ∷ bracket) a (closing_bracket ++ equality) b end_of_statement line
+    → OpenedTwo names kind a b line ts
+two_reads names all {ts} kind {a} {b} {line} x =
+    let close = Punctuator (codes "]") in
+    let sign = Punctuator (codes "=") in
+    let p = cut ts ((kind ∷ bracket) ++ x.first ++ close ∷ []) (sign ∷ (x.second ++ end_of_statement)) (x.are ∙ between ((kind ∷ bracket) ++ x.first) x.second end_of_statement close sign) in
+    let line_is : first_line p.left ≡ line = same_line p.left p.right (bracket ++ x.first ++ close ∷ []) p.left_is ∙ ap first_line (sym p.parts) ∙ x.line_is in
+    let left = enclosed_reads names all kind bracket close [] bracket_no_operator (record { inside = x.first; are = p.left_is; spells = x.spells_first; line_is = line_is }) in
+    let right = enclosed_reads names all sign [] (Punctuator (codes ";")) [] semicolon_no_operator (record { inside = x.second; are = p.right_is; spells = x.spells_second; line_is = refl }) in
+    record {
+      token = left.token;
+      behind = left.behind ++ p.right;
+      parts = p.parts ∙ ap (λ l. l ++ p.right) left.parts;
+      kind_is = left.kind_is;
+      line_is = left.line_is;
+      reads = λ rest.
+          let r = right.reads rest in (
+            p.right ++ rest,
+            subst (λ l. ReadsEnclosed names bracket closing_bracket l a (p.right ++ rest)) (sym (append_assoc left.behind p.right rest)) (left.reads (p.right ++ rest)),
+            record {
+              inside = r.inside;
+              closing = r.closing;
+              opens = (right.behind ++ rest, record { token = right.token; parts = ap (λ l. l ++ rest) right.parts; is = right.kind_is }, r.opens);
+              reads = r.reads;
+              closes = r.closes;
+            },
+          );
+    }
+  where
+    same_line : (left right : List Lexeme) (ks : List Kind) → kinds left ≡ kind ∷ ks → first_line left ≡ first_line (left ++ right)
+    same_line [] right ks is = absurd cc
+    same_line (t ∷ left) right ks is = refl
+
+-- what is read behind a token is enclosed
+pub record EnclosedTwo (names : Names) (a b : Expression) (ts rest : List Lexeme) : Type 0 where
+  pub part : List Lexeme
+  pub parts : ts ≡ part ++ rest
+  pub spells : (t : Lexeme) → EnclosesTwo names (t ∷ part) (kind_at t ∷ bracket) a (closing_bracket ++ equality) b end_of_statement (line_of t)
+
+pub two_spelled : (names : Names) {ts next rest : List Lexeme} {a b : Expression} → ReadsEnclosed names bracket closing_bracket ts a next → ReadsEnclosed names equality end_of_statement next b rest → EnclosedTwo names a b ts rest
+two_spelled names {ts} {next} {rest} r q =
+    let x = enclosed_spelled names bracket closing_bracket r in
+    let y = enclosed_spelled names equality end_of_statement q in
+    record {
+      part = x.part ++ y.part;
+      parts = x.parts ∙ ap (λ l. x.part ++ l) y.parts ∙ sym (append_assoc x.part y.part rest);
+      spells = λ t.
+          let left = x.spells t in
+          let right = y.spells t in
+          let right_are : kinds y.part ≡ Punctuator (codes "=") ∷ (right.inside ++ end_of_statement) = tail_same right.are in
+          record {
+            first = left.inside;
+            second = right.inside;
+            are =
+                map-append kind_at (t ∷ x.part) y.part ∙ ap (λ l. l ++ kinds y.part) left.are ∙ ap (λ l. ((kind_at t ∷ bracket) ++ left.inside ++ closing_bracket) ++ l) right_are
+                ∙ sym (between ((kind_at t ∷ bracket) ++ left.inside) right.inside end_of_statement (Punctuator (codes "]")) (Punctuator (codes "=")));
+            spells_first = left.spells;
+            spells_second = right.spells;
+            line_is = refl;
+          };
+    }
+  where
+    tail_same : {k j : Kind} {ks js : List Kind} → k ∷ ks ≡ j ∷ js → ks ≡ js
+    tail_same e = cc

@@ -2,7 +2,7 @@
 use Rattle.std.proofs.Common.{◌≡◌, ℕ, ◌<◌, lit<, Bool, true, false, List, [], ◌∷◌, codes, Option, Some, None, Contains, bytes_eq, refl, sym, ap, ◌∙◌, subst, if◌then◌else◌}
 use Rattle.std.proofs.lemmas.Bool.{false_from_ne_true}
 use Rattle.std.proofs.lemmas.Slice.Eq.{bytes_eq-Decides}
-use Rattle.css_base.specs.Tokens.{Kind, Word, Number, Punctuator, Character, Text, Directive}
+use Rattle.css_base.specs.Tokens.{Kind, Word, Number, Punctuator, Character, Text, Directive, Lexemes}
 use Rattle.css_small.specs.declared.parser.statements.Form.{Form}
 use Rattle.css_small.specs.declared.parser.statements.Form.TheVariants as forms
 use Rattle.css_small.specs.Grammar.{reserved}
@@ -11,13 +11,13 @@ use Rattle.css_small.specs.Forms.{form_of, form_of_word, form_of_punctuator}
 -- the form of a word by what it is: putchar, return, int, if, while
 abbrev word_form : (b c d e f : Bool) → Form
 word_form b c d e f =
-    if b then forms.Put else (if c then forms.Return else (if d then forms.Declaration else (if e then forms.If else (if f then forms.While else forms.Assignment))))
+    if b then forms.Put else (if c then forms.Return else (if d then forms.Declaration else (if e then forms.If else (if f then forms.While else forms.Named))))
 
 other_word : (name word : List ℕ) → (Contains reserved name → ⊥) → Contains reserved word → bytes_eq name word ≡ false
 other_word name word free held = false_from_ne_true (bytes_eq name word) (λ e. free (subst (Contains reserved) (sym ((bytes_eq-Decides name word).0 e)) held))
 
--- a name that isn't reserved begins an assignment
-pub free_form : (name : List ℕ) → (Contains reserved name → ⊥) → form_of (Word name) ≡ Some forms.Assignment
+-- a name that isn't reserved begins an assignment or a call
+pub free_form : (name : List ℕ) → (Contains reserved name → ⊥) → form_of (Word name) ≡ Some forms.Named
 unfolding form_of_word
 free_form name free =
     let not_putchar = other_word name (codes "putchar") free (38, lit< tt, refl) in
@@ -63,8 +63,8 @@ pub form_of_while : form_of (Word (codes "while")) ≡ Some forms.While
 unfolding form_of_word
 form_of_while = refl
 
--- what begins with `else` could only be an assignment
-pub form_of_else : form_of (Word (codes "else")) ≡ Some forms.Assignment
+-- what begins with `else` could only be an assignment or a call
+pub form_of_else : form_of (Word (codes "else")) ≡ Some forms.Named
 unfolding form_of_word
 form_of_else = refl
 
@@ -77,7 +77,8 @@ TokenOf forms.Return kind = kind ≡ Word (codes "return")
 TokenOf forms.Declaration kind = kind ≡ Word (codes "int")
 TokenOf forms.If kind = kind ≡ Word (codes "if")
 TokenOf forms.While kind = kind ≡ Word (codes "while")
-TokenOf forms.Assignment kind = Unit {0}
+TokenOf forms.Directive kind = (words : Lexemes) × (kind ≡ Directive words)
+TokenOf forms.Named kind = Unit {0}
 
 pub form_token : (kind : Kind) (f : Form) → form_of kind ≡ Some f → TokenOf f kind
 unfolding form_of_word form_of_punctuator
@@ -100,8 +101,8 @@ form_token (Word bytes) f is =
     by false false true i w p q r s u h = let same : forms.Declaration ≡ f = cc in subst (λ g. TokenOf g (Word bytes)) same (word (codes "int") r)
     by false false false true w p q r s u h = let same : forms.If ≡ f = cc in subst (λ g. TokenOf g (Word bytes)) same (word (codes "if") s)
     by false false false false true p q r s u h = let same : forms.While ≡ f = cc in subst (λ g. TokenOf g (Word bytes)) same (word (codes "while") u)
-    by false false false false false p q r s u h = let same : forms.Assignment ≡ f = cc in subst (λ g. TokenOf g (Word bytes)) same tt
+    by false false false false false p q r s u h = let same : forms.Named ≡ f = cc in subst (λ g. TokenOf g (Word bytes)) same tt
 form_token (Number type value) f is = absurd cc
 form_token (Character byte) f is = absurd cc
 form_token (Text bytes) f is = absurd cc
-form_token (Directive words) f is = absurd cc
+form_token (Directive words) f is = let same : forms.Directive ≡ f = cc in subst (λ g. TokenOf g (Directive words)) same (words, refl)

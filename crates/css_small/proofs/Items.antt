@@ -1,17 +1,17 @@
 -- Declarations and statements of main's body, one behind another.
-use Rattle.std.proofs.Common.{◌≡◌, ℕ, ◌+◌, ◌<◌, ◌≤◌, max, List, [], ◌∷◌, ◌++◌, length, codes, Option, Some, None, refl, sym, ap, ◌∙◌, subst, arith, length-append}
+use Rattle.std.proofs.Common.{◌≡◌, ℕ, ◌+◌, ◌<◌, ◌≤◌, max, List, [], ◌∷◌, ◌++◌, length, codes, Option, Some, None, refl, sym, ap, ◌∙◌, subst, arith, le_trans, length-append}
 use Rattle.css_base.specs.Tokens.{Kind, Word, Punctuator, Lexeme}
 use Rattle.css_small.specs.declared.parser.statements.Form.{Form}
 use Rattle.css_small.specs.declared.parser.statements.Form.TheVariants as forms
-use Rattle.css_small.specs.Tree.{Expression, Statement, Declare, Initialise, Empty, Assign, Put, Return, Block, If, IfElse, While, Statements, End, More, height, height_of_statement, height_of_statements}
+use Rattle.css_small.specs.Tree.{Expression, Statement, Declare, Initialise, Empty, Assign, AssignElement, Call, Mark, Put, Return, Block, If, IfElse, While, Statements, End, More, height, height_of_statement, height_of_statements}
 use Rattle.css_small.specs.Spelling.{line_of}
-use Rattle.css_small.specs.Grammar.{Names, kind_at, IsFresh}
+use Rattle.css_small.specs.Grammar.{Names, with_object, kind_at, IsFresh}
 use Rattle.css_small.specs.Fronts.{Next, Takes, marks}
 use Rattle.css_small.specs.Forms.{form, form_of, line_in}
 use Rattle.css_small.specs.Readings.{Begins, ReadsEnclosed, ReadsRest, ReadsStatement, ReadsName, ReadsItemRest, ReadsItem, ReadsItems, ReadsDeclaration, AreClosed}
 use Rattle.css_small.proofs.Heights.{next_shorter, takes_no_longer}
 use Rattle.css_small.proofs.Enclosures.{not_both}
-use Rattle.css_small.proofs.Trees.{no_start, one_item}
+use Rattle.css_small.proofs.Trees.{same_word, no_start, one_item}
 use Rattle.css_small.proofs.FormReadings.{begins_shorter, rest_no_longer, enclosed_no_longer}
 use Rattle.css_small.proofs.Marks.{one_next}
 use Rattle.css_small.proofs.Rows.{with_last}
@@ -28,6 +28,9 @@ declared_name names after (Declare line k) r = record { number = k; behind = r.r
 declared_name names after (Initialise line k e) r = record { number = k; behind = r.reads.0; reads = r.reads.1 }
 declared_name names after (Empty line) r = absurd (let f = r.form_is in cc)
 declared_name names after (Assign line k e) r = absurd (let f = r.form_is in cc)
+declared_name names after (AssignElement line i e) r = absurd (let f = r.form_is in cc)
+declared_name names after (Call line f k) r = absurd (let f = r.form_is in cc)
+declared_name names after (Mark line d) r = absurd (let f = r.form_is in cc)
 declared_name names after (Put line e) r = absurd (let f = r.form_is in cc)
 declared_name names after (Return line e) r = absurd (let f = r.form_is in cc)
 declared_name names after (Block line all) r = absurd (let f = r.form_is in cc)
@@ -35,17 +38,15 @@ declared_name names after (If line e s) r = absurd (let f = r.form_is in cc)
 declared_name names after (IfElse line e s other) r = absurd (let f = r.form_is in cc)
 declared_name names after (While line e s) r = absurd (let f = r.form_is in cc)
 
-same_word : (a b : List ℕ) {ts us vs : List Lexeme} → Next (Word a) ts us → Next (Word b) ts vs → a ≡ b
-same_word a b n m = let same = not_both n m in cc
-
 -- the name can't be declared
-pub not_declared : (names after : Names) (name : List ℕ) {line : ℕ} {kind : Kind} {ts next rest : List Lexeme} {s : Statement} → ReadsDeclaration names after line kind ts s rest → Next (Word name) ts next → length after ≤ 1000
-    → (IsFresh names name → length names < 1000 → ⊥) → ⊥
+pub not_declared : (names after : Names) (name : List ℕ) {line : ℕ} {kind : Kind} {ts next rest : List Lexeme} {s : Statement} → ReadsDeclaration names after line kind ts s rest → Next (Word name) ts next → length after.objects ≤ after.parameters + 1000
+    → (IsFresh names.objects name → length names.objects < names.parameters + 1000 → ⊥) → ⊥
 not_declared names after name {s = s} r n few none =
     let x = declared_name names after s r in
     let same = same_word x.reads.name name x.reads.reads n in
-    let grown = ap length x.reads.after_is ∙ length-append names (x.reads.name ∷ []) in
-    none (subst (IsFresh names) same x.reads.declares.fresh) (omega arith)
+    let grown = ap (λ n. length n.objects) x.reads.after_is ∙ length-append names.objects (x.reads.name ∷ []) in
+    let same_parameters = ap (λ n. n.parameters) x.reads.after_is in
+    none (subst (IsFresh names.objects) same x.reads.declares.fresh) (omega arith)
 
 -- what is declared behind a name
 pub record IsInitialised (new : Names) (next : List Lexeme) (s : Statement) (rest : List Lexeme) : Type 0 where
@@ -53,7 +54,7 @@ pub record IsInitialised (new : Names) (next : List Lexeme) (s : Statement) (res
   pub reads : ReadsEnclosed new (marks (codes "=")) (marks (codes ";")) next value rest
   pub height_is : height_of_statement s ≡ 1 + height value
 
-pub initialised : (names after new : Names) (name : List ℕ) {line : ℕ} {kind : Kind} {ts next rest : List Lexeme} (s : Statement) → ReadsDeclaration names after line kind ts s rest → Next (Word name) ts next → new ≡ names ++ name ∷ []
+pub initialised : (names after new : Names) (name : List ℕ) {line : ℕ} {kind : Kind} {ts next rest : List Lexeme} (s : Statement) → ReadsDeclaration names after line kind ts s rest → Next (Word name) ts next → new ≡ with_object names name
     → ((behind : List Lexeme) → Takes (marks (codes ";")) next behind → ⊥) → IsInitialised new next s rest
 initialised names after new name {rest = rest} (Declare line k) r n is none =
     absurd (none rest (subst (λ l. Takes (marks (codes ";")) l rest) (one_next_word r.reads.1.reads n) r.reads.2))
@@ -66,7 +67,7 @@ initialised names after new name {rest = rest} (Initialise line k e) r n is none
     let q = n.parts in
     let behind : r.reads.0 ≡ _ = tail_same p q in
     let same = same_word x.name name x.reads n in
-    let names_are : after ≡ new = x.after_is ∙ ap (λ w. names ++ w ∷ []) same ∙ sym is in
+    let names_are : after ≡ new = x.after_is ∙ ap (with_object names) same ∙ sym is in
     record {
       value = e;
       reads = subst (λ l. ReadsEnclosed new (marks (codes "=")) (marks (codes ";")) l e rest) behind (subst (λ m. ReadsEnclosed m (marks (codes "=")) (marks (codes ";")) r.reads.0 e rest) names_are r.reads.2);
@@ -77,6 +78,9 @@ initialised names after new name {rest = rest} (Initialise line k e) r n is none
     tail_same p q = cc
 initialised names after new name (Empty line) r n is none = absurd (let f = r.form_is in cc)
 initialised names after new name (Assign line k e) r n is none = absurd (let f = r.form_is in cc)
+initialised names after new name (AssignElement line i e) r n is none = absurd (let f = r.form_is in cc)
+initialised names after new name (Call line f k) r n is none = absurd (let f = r.form_is in cc)
+initialised names after new name (Mark line d) r n is none = absurd (let f = r.form_is in cc)
 initialised names after new name (Put line e) r n is none = absurd (let f = r.form_is in cc)
 initialised names after new name (Return line e) r n is none = absurd (let f = r.form_is in cc)
 initialised names after new name (Block line all) r n is none = absurd (let f = r.form_is in cc)
@@ -113,6 +117,9 @@ item_rest names (Declare line k) kind ts rest r = absurd r
 item_rest names (Initialise line k e) kind ts rest r = absurd r
 item_rest names (Empty line) kind ts rest r = (refl, r)
 item_rest names (Assign line k e) kind ts rest r = (refl, r)
+item_rest names (AssignElement line i e) kind ts rest r = (refl, r)
+item_rest names (Call line f k) kind ts rest r = (refl, r)
+item_rest names (Mark line d) kind ts rest r = (refl, r)
 item_rest names (Put line e) kind ts rest r = (refl, r)
 item_rest names (Return line e) kind ts rest r = (refl, r)
 item_rest names (Block line all) kind ts rest r = (refl, r)
@@ -128,6 +135,9 @@ statement_rest names after (Declare line k) kind ts rest other r = absurd (other
 statement_rest names after (Initialise line k e) kind ts rest other r = absurd (other refl)
 statement_rest names after (Empty line) kind ts rest other r = r.1
 statement_rest names after (Assign line k e) kind ts rest other r = r.1
+statement_rest names after (AssignElement line i e) kind ts rest other r = r.1
+statement_rest names after (Call line f k) kind ts rest other r = r.1
+statement_rest names after (Mark line d) kind ts rest other r = r.1
 statement_rest names after (Put line e) kind ts rest other r = r.1
 statement_rest names after (Return line e) kind ts rest other r = r.1
 statement_rest names after (Block line all) kind ts rest other r = r.1
@@ -160,6 +170,9 @@ item_rest_no_longer names after (Initialise line k e) kind ts rest r =
     omega arith
 item_rest_no_longer names after (Empty line) kind ts rest r = rest_no_longer names (Empty line) kind ts rest r.1
 item_rest_no_longer names after (Assign line k e) kind ts rest r = rest_no_longer names (Assign line k e) kind ts rest r.1
+item_rest_no_longer names after (AssignElement line i e) kind ts rest r = rest_no_longer names (AssignElement line i e) kind ts rest r.1
+item_rest_no_longer names after (Call line f k) kind ts rest r = rest_no_longer names (Call line f k) kind ts rest r.1
+item_rest_no_longer names after (Mark line d) kind ts rest r = rest_no_longer names (Mark line d) kind ts rest r.1
 item_rest_no_longer names after (Put line e) kind ts rest r = rest_no_longer names (Put line e) kind ts rest r.1
 item_rest_no_longer names after (Return line e) kind ts rest r = rest_no_longer names (Return line e) kind ts rest r.1
 item_rest_no_longer names after (Block line all) kind ts rest r = rest_no_longer names (Block line all) kind ts rest r.1
@@ -198,25 +211,40 @@ items_left (More q qs) (More s ss) names mid last ts here rest (after, next, r, 
     let lower = left.height in
     record { others = left.others; reads = left.reads; height = omega arith }
 
--- no item makes fewer names
-item_names : (names after : Names) (s : Statement) (kind : Kind) (ts rest : List Lexeme) → ReadsItemRest names after kind ts s rest → length names ≤ length after
-item_names names after (Declare line k) kind ts rest r = let l = ap length r.1.after_is ∙ length-append names (r.1.name ∷ []) in omega arith
-item_names names after (Initialise line k e) kind ts rest r = let l = ap length r.1.after_is ∙ length-append names (r.1.name ∷ []) in omega arith
-item_names names after (Empty line) kind ts rest r = let l = ap length r.0 in omega arith
-item_names names after (Assign line k e) kind ts rest r = let l = ap length r.0 in omega arith
-item_names names after (Put line e) kind ts rest r = let l = ap length r.0 in omega arith
-item_names names after (Return line e) kind ts rest r = let l = ap length r.0 in omega arith
-item_names names after (Block line all) kind ts rest r = let l = ap length r.0 in omega arith
-item_names names after (If line e s) kind ts rest r = let l = ap length r.0 in omega arith
-item_names names after (IfElse line e s other) kind ts rest r = let l = ap length r.0 in omega arith
-item_names names after (While line e s) kind ts rest r = let l = ap length r.0 in omega arith
+-- the objects behind, where there are no fewer, and the parameters are the same
+abbrev pub IsGrown : Names → Names → Type 0
+IsGrown names after = (length names.objects ≤ length after.objects) × (names.parameters ≡ after.parameters)
 
-pub items_names : (ss : Statements) (names last : Names) (ts rest : List Lexeme) → ReadsItems names last ts ss rest → length names ≤ length last
-items_names End names last ts rest r = let l = ap length r.0 in omega arith
+same_grown : {names after : Names} → after ≡ names → IsGrown names after
+same_grown is = let l = ap (λ n. length n.objects) is in (omega arith, sym (ap (λ n. n.parameters) is))
+
+declared_grown : (names : Names) (name : List ℕ) {after : Names} → after ≡ with_object names name → IsGrown names after
+declared_grown names name is =
+    let l = ap (λ n. length n.objects) is ∙ length-append names.objects (name ∷ []) in
+    (omega arith, sym (ap (λ n. n.parameters) is))
+
+-- no item makes fewer names
+item_names : (names after : Names) (s : Statement) (kind : Kind) (ts rest : List Lexeme) → ReadsItemRest names after kind ts s rest → IsGrown names after
+item_names names after (Declare line k) kind ts rest r = declared_grown names r.1.name r.1.after_is
+item_names names after (Initialise line k e) kind ts rest r = declared_grown names r.1.name r.1.after_is
+item_names names after (Empty line) kind ts rest r = same_grown r.0
+item_names names after (Assign line k e) kind ts rest r = same_grown r.0
+item_names names after (AssignElement line i e) kind ts rest r = same_grown r.0
+item_names names after (Call line f k) kind ts rest r = same_grown r.0
+item_names names after (Mark line d) kind ts rest r = same_grown r.0
+item_names names after (Put line e) kind ts rest r = same_grown r.0
+item_names names after (Return line e) kind ts rest r = same_grown r.0
+item_names names after (Block line all) kind ts rest r = same_grown r.0
+item_names names after (If line e s) kind ts rest r = same_grown r.0
+item_names names after (IfElse line e s other) kind ts rest r = same_grown r.0
+item_names names after (While line e s) kind ts rest r = same_grown r.0
+
+pub items_names : (ss : Statements) (names last : Names) (ts rest : List Lexeme) → ReadsItems names last ts ss rest → IsGrown names last
+items_names End names last ts rest r = same_grown r.0
 items_names (More s ss) names last ts rest (after, next, r, more) =
     let first = item_names names after s r.kind r.behind next r.reads in
     let others = items_names ss after last next rest more in
-    omega arith
+    (le_trans first.0 others.0, first.1 ∙ others.1)
 
 -- the first of some items
 pub record FirstItem (mid last : Names) (ss : Statements) (ts : List Lexeme) : Type 0 where
@@ -225,7 +253,7 @@ pub record FirstItem (mid last : Names) (ss : Statements) (ts : List Lexeme) : T
   pub next : List Lexeme
   pub reads : ReadsItem mid after ts first next
   pub height : height_of_statement first ≤ height_of_statements ss
-  pub few : length after ≤ length last
+  pub few : IsGrown after last
 
 pub first_item : (ss : Statements) (mid last : Names) (ts rest : List Lexeme) → ReadsItems mid last ts ss rest → AreClosed rest → ((after : List Lexeme) → Takes (marks (codes "}")) ts after → ⊥) → FirstItem mid last ss ts
 first_item End mid last ts rest r close none = absurd (none close.behind (subst (λ l. Takes (marks (codes "}")) l close.behind) (sym r.1) close.closes))

@@ -24,4 +24,5 @@ pub mod Programs
 pub mod FormReadings
 pub mod Rows
 pub mod Items
+pub mod Directives
 pub mod Numbers

@@ -8,7 +8,7 @@ use Rattle.std.proofs.lemmas.List.Sums.{position_or_len_is}
 use Rattle.std.proofs.lemmas.List.Elements.{Contains-get_or, All-push, All-get_or}
 use Rattle.std.proofs.lemmas.Map.Made.{Contains-tail}
 use Rattle.std.proofs.lemmas.Slice.Eq.{bytes_eq-Decides}
-use Rattle.css_small.specs.Grammar.{Names, reserved, IsFresh, IsVariable, IsParameter, IsFunction}
+use Rattle.css_small.specs.Grammar.{Names, with_object, reserved, IsFresh, IsVariable, IsParameter, IsFunction}
 use Rattle.css_small.specs.Readings.{behind_parameters, variable_of, IsCalled, IsFreshFunction}
 
 -- No name is declared twice.
@@ -76,6 +76,9 @@ declared_free names k name all at =
 pub record AreKnown (names : Names) : Type 0 where
   pub objects : AreDeclared names.objects
   pub functions : AreDeclared names.functions
+
+pub more_known : (names : Names) (name : List ℕ) → AreKnown names → IsFresh names.objects name → AreKnown (with_object names name)
+more_known names name all fresh = record { objects = more_declared names.objects name all.objects fresh; functions = all.functions }
 
 -- a variable is found at its number
 pub variable_numbered : (names : Names) (k : ℕ) (name : List ℕ) → AreDifferent names.objects → IsVariable names k name → variable_of names name ≡ Some k

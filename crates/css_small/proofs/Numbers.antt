@@ -3,7 +3,7 @@ use Rattle.std.proofs.Common.{◌≡◌, ℕ, ◌+◌, ◌<◌, ◌≤◌, List,
 use Rattle.std.proofs.lemmas.Option.{slice_get_within}
 use Rattle.css_base.specs.Tokens.{Kind, Lexeme}
 use Rattle.css_small.specs.Tree as tree
-use Rattle.css_small.specs.Tree.{Expression, Statement, Declare, Initialise, Empty, Assign, Put, Return, Block, If, IfElse, While, Statements, End, More, Program}
+use Rattle.css_small.specs.Tree.{Expression, Statement, Declare, Initialise, Empty, Assign, AssignElement, Call, Mark, Put, Return, Block, If, IfElse, While, Statements, End, More, Program}
 use Rattle.css_small.specs.Grammar.{Names, SpellsExpression, Constant, Name, Prefix, Infix, Conjunction, Disjunction, Parentheses, SpellsStatement, SpellsStatements, SpellsItem, SpellsItems, SpellsProgram}
 use Rattle.css_small.specs.Numbers.{IsWithin, AreWithin, AllWithin}
 
@@ -23,6 +23,9 @@ module _ (names : Names) (count : ℕ) (few : length names ≤ count) where
     statement_within (Initialise line k e) ts h = absurd h
     statement_within (Empty line) ts h = tt
     statement_within (Assign line k e) ts h = (let l = slice_get_within names k h.0 h.1 in omega arith, expression_within names count few h.2.spells)
+    statement_within (AssignElement line i e) ts h = (let l = slice_get_within names k h.0 h.1 in omega arith, expression_within names count few h.2.spells)
+    statement_within (Call line f k) ts h = (let l = slice_get_within names k h.0 h.1 in omega arith, expression_within names count few h.2.spells)
+    statement_within (Mark line d) ts h = (let l = slice_get_within names k h.0 h.1 in omega arith, expression_within names count few h.2.spells)
     statement_within (Put line e) ts h = expression_within names count few h.spells
     statement_within (Return line e) ts h = expression_within names count few h.spells
     statement_within (Block line all) ts (opens, us, closes, parts, opens_is, closes_is, line_is, spells) = statements_within all us spells
@@ -41,6 +44,9 @@ grown names after (Declare line k) ts h = let l = ap length h.2 ∙ length-appen
 grown names after (Initialise line k e) ts h = let l = ap length h.2 ∙ length-append names (h.0 ∷ []) in omega arith
 grown names after (Empty line) ts h = let l = ap length h.0 in omega arith
 grown names after (Assign line k e) ts h = let l = ap length h.0 in omega arith
+grown names after (AssignElement line i e) ts h = let l = ap length h.0 in omega arith
+grown names after (Call line f k) ts h = let l = ap length h.0 in omega arith
+grown names after (Mark line d) ts h = let l = ap length h.0 in omega arith
 grown names after (Put line e) ts h = let l = ap length h.0 in omega arith
 grown names after (Return line e) ts h = let l = ap length h.0 in omega arith
 grown names after (Block line all) ts h = let l = ap length h.0 in omega arith
@@ -63,6 +69,9 @@ item_within names after count few (Initialise line k e) ts h =
     (omega arith, expression_within after count few h.3.spells)
 item_within names after count few (Empty line) ts h = tt
 item_within names after count few (Assign line k e) ts h = statement_within names count (let l = ap length h.0 in omega arith) (Assign line k e) ts h.1
+item_within names after count few (AssignElement line i e) ts h = statement_within names count (let l = ap length h.0 in omega arith) (AssignElement line i e) ts h.1
+item_within names after count few (Call line f k) ts h = statement_within names count (let l = ap length h.0 in omega arith) (Call line f k) ts h.1
+item_within names after count few (Mark line d) ts h = statement_within names count (let l = ap length h.0 in omega arith) (Mark line d) ts h.1
 item_within names after count few (Put line e) ts h = statement_within names count (let l = ap length h.0 in omega arith) (Put line e) ts h.1
 item_within names after count few (Return line e) ts h = statement_within names count (let l = ap length h.0 in omega arith) (Return line e) ts h.1
 item_within names after count few (Block line all) ts h = statement_within names count (let l = ap length h.0 in omega arith) (Block line all) ts h.1

@@ -109,7 +109,9 @@ pub(super) fn statement<'a>(
         Some(Form::If) => if_statement(alloc, names, line, rest, levels - 1),
         Some(Form::While) => while_statement(alloc, names, line, rest, levels - 1),
         Some(Form::Named) => named(alloc, names, first, rest, levels),
-        Some(Form::Declaration) | Some(Form::Directive) | None => Err(Unspelled::NotSpelled),
+        // None of main's was found.
+        Some(Form::Directive) => Err(Unspelled::NotSpelled),
+        Some(Form::Declaration) | None => Err(Unspelled::NotSpelled),
     }
 }
 
@@ -257,10 +259,10 @@ fn inner<'a>(
     Ok((body, rest))
 }
 
-fn is_directive(statement: &Statement) -> bool
-    ensures { result ≡ is_directive (statement statement.now) }
+fn is_directive(inner: &Statement) -> bool
+    ensures { result ≡ is_directive (statement inner.now) }
 {
-    matches!(statement, Statement::Directive { .. })
+    matches!(inner, Statement::Directive { .. })
 }
 
 /// A statement on the heap. The only error is `NoMemory`.

@@ -5,9 +5,9 @@ use Rattle.css_base.specs.Tokens.{Kind, Word, Lexeme, lexeme, lexemes}
 use Rattle.css_small.specs.Tree.{Statement, Statements, Block, statement, listed, height, height_of_statement, height_of_statements}
 use Rattle.css_small.specs.Fronts.{Next, marks}
 use Rattle.css_small.specs.declared.parser.statements.Form.TheVariants as forms
-use Rattle.css_small.specs.Readings.{ReadsForm, ReadsStatement, ReadsStatements}
+use Rattle.css_small.specs.Readings.{ReadsForm, ReadsInner, ReadsStatement, ReadsStatements}
 use Rattle.css_small.proofs.Exits.{passed}
-use Rattle.css_small.proofs.FormReadings.{as_form, from_form, block_parts, while_parts, if_parts, enclosed_no_longer, statement_shorter, guarded_shorter}
+use Rattle.css_small.proofs.FormReadings.{statement_positive, no_directive, is_mark, as_form, from_form, block_parts, while_parts, if_parts, enclosed_no_longer, statement_shorter, guarded_shorter}
 use Rattle.css_small.proofs.Heights.{next_shorter}
 use Rattle.css_small.proofs.Enclosures.{one_enclosed}
 use Rattle.css_small.proofs.Trees.{one_guarded}
@@ -91,10 +91,22 @@ statement-returns-in-Some-While-clause-ok t c =
     let is = sym c.in-Some-While.ensures ∙ ap Some c.in-Some-While.field-0-is in
     IfOk-weaker c.while_statement.result _ _ (λ x r. from_form c.args.names.now {f = forms.While} (lexeme c.in-Some.first.now) first is (r _)) c.while_statement.ensures.ok
 
+pub statement-returns-then-levels-eq0-clause-not_spelled : goal.statement-returns-then-levels-eq0-clause-not_spelled
+statement-returns-then-levels-eq0-clause-not_spelled t c = λ why s rest r.
+    let positive = statement_positive s (no_directive c.args.names.now s c.in_default-directive_at.ensures.none r) in
+    omega arith
+
+pub statement-returns-in-Some-Directive-clause-not_spelled : goal.statement-returns-in-Some-Directive-clause-not_spelled
+statement-returns-in-Some-Directive-clause-not_spelled t c = λ why s rest r.
+    let first = ap lexemes c.in-Some.ensures.cases.0 in
+    let is = sym c.in-Some-Directive.ensures ∙ ap Some c.in-Some-Directive.field-0-is in
+    let f = as_form c.args.names.now {f = forms.Directive} (lexeme c.in-Some.first.now) first is r in
+    absurd (let no = no_directive c.args.names.now s c.in_default-directive_at.ensures.none r in let yes = is_mark s f.form_is in cc)
+
 -- ---- a condition and what it guards
 
-pub guarded-statement-requires : goal.guarded-statement-requires
-guarded-statement-requires t c =
+pub guarded-inner-requires : goal.guarded-inner-requires
+guarded-inner-requires t c =
     let shorter = enclosed_no_longer c.args.names.now (marks (codes "(")) (marks (codes ")")) c.in_ok-condition.ensures.ok in
     (omega (arith, length-map c.args.tokens.now lexeme, length-map c.in_ok-condition.behind.now lexeme), tt)
 
@@ -103,11 +115,11 @@ guarded-returns-in_err-condition-clause-not_spelled t c = λ why e s rest r.
     let high = c.in_err-condition.ensures.not_spelled (passed c.from_residual.result c.in_err-condition.field-0.0 c.from_residual.ensures.1 why) e r.behind r.condition in
     omega arith
 
-pub guarded-returns-in_err-next-clause-not_spelled : goal.guarded-returns-in_err-next-clause-not_spelled
-guarded-returns-in_err-next-clause-not_spelled t c = λ why e s rest r.
+pub guarded-returns-in_err-body-clause-not_spelled : goal.guarded-returns-in_err-body-clause-not_spelled
+guarded-returns-in_err-body-clause-not_spelled t c = λ why e s rest r.
     let same = one_enclosed c.args.names.now (marks (codes "(")) (marks (codes ")")) r.condition c.in_ok-condition.ensures.ok in
-    let guards = subst (λ l. ReadsStatement c.args.names.now l s rest) same.1 r.guards in
-    let high = c.in_err-next.ensures.not_spelled (passed c.from_residual-in_err-next.result c.in_err-next.field-0.0 c.from_residual-in_err-next.ensures.1 why) s rest guards in
+    let guards = subst (λ l. ReadsInner c.args.names.now l s rest) same.1 r.guards in
+    let high = c.in_err-body.ensures.not_spelled (passed c.from_residual-in_err-body.result c.in_err-body.field-0.0 c.from_residual-in_err-body.ensures.1 why) s rest guards in
     omega arith
 
 -- ---- loops
@@ -128,18 +140,24 @@ if_statement-returns-in_err-condition-clause-not_spelled t c = λ why kind s res
     let lower = x.lower in
     omega arith
 
-pub if_statement-statement-requires : goal.if_statement-statement-requires
-if_statement-statement-requires t c =
+pub if_statement-inner-requires : goal.if_statement-inner-requires
+if_statement-inner-requires t c =
     let first = guarded_shorter c.args.names.now c.in_ok-condition.ensures.ok in
     let second = next_shorter c.in-Some.ensures.found in
     (omega (arith, length-map c.args.tokens.now lexeme, length-map c.in_ok-condition.rest.now lexeme, length-map c.in-Some.behind.now lexeme), tt)
 
-pub if_statement-returns-in_err-next-clause-not_spelled : goal.if_statement-returns-in_err-next-clause-not_spelled
-if_statement-returns-in_err-next-clause-not_spelled t c = λ why kind s rest r.
+pub if_statement-returns-in_err-other-clause-not_spelled : goal.if_statement-returns-in_err-other-clause-not_spelled
+if_statement-returns-in_err-other-clause-not_spelled t c = λ why kind s rest r.
     let x = if_parts c.args.names.now s r in
     let middle = one_guarded c.args.names.now x.reads c.in_ok-condition.ensures.ok in
     let behind = lexemes c.in-Some.behind.now in
     let other = x.otherwise behind (subst (λ l. Next (Word (codes "else")) l behind) (sym middle) c.in-Some.ensures.found) in
-    let high = c.in_err-next.ensures.not_spelled (passed c.from_residual-in_err-next.result c.in_err-next.field-0.0 c.from_residual-in_err-next.ensures.1 why) other.other rest other.reads in
+    let high = c.in_err-other.ensures.not_spelled (passed c.from_residual-in_err-other.result c.in_err-other.field-0.0 c.from_residual-in_err-other.ensures.1 why) other.other rest other.reads in
     let lower = other.lower in
     omega arith
+
+-- ---- a statement in another one
+
+pub inner-returns-in_err-next-clause-not_spelled : goal.inner-returns-in_err-next-clause-not_spelled
+inner-returns-in_err-next-clause-not_spelled t c = λ why s rest r.
+    c.in_err-next.ensures.not_spelled (passed c.from_residual.result c.in_err-next.field-0.0 c.from_residual.ensures.1 why) s rest r.reads

@@ -1,13 +1,9 @@
-use Rattle.std.proofs.Common.{◌≡◌, ◌∙◌, Some, position, bytes_eq, sym, ap, arith}
-use Rattle.css_base.specs.Tokens.{Word, kind_of}
-use Rattle.css_small.specs.Tree.{height, height_of_statement}
+use Rattle.std.proofs.Common.{◌≡◌, ◌+◌, ◌<◌, arith}
+use Rattle.css_small.specs.Tree.{height}
 use Rattle.css_small.proofs.Exits.{passed}
-use Rattle.css_small.proofs.FormReadings.{assignment_parts}
 use Rattle.css_small.proofs.parser.statements.assignment.Goals as goal
 
 pub returns-in_err-value-clause-not_spelled : goal.returns-in_err-value-clause-not_spelled
-returns-in_err-value-clause-not_spelled c = λ why s rest r.
-    let x = assignment_parts c.args.names.now s r in
-    let high = c.in_err-value.ensures.not_spelled (passed c.from_residual.result c.in_err-value.field-0.0 c.from_residual.ensures.1 why) x.value rest x.reads in
-    let whole = ap height_of_statement x.is in
+returns-in_err-value-clause-not_spelled c = λ why k e rest r.
+    let high = c.in_err-value.ensures.not_spelled (passed c.from_residual.result c.in_err-value.field-0.0 c.from_residual.ensures.1 why) e rest r.3 in
     omega arith
