@@ -127,7 +127,7 @@ none_known = record { objects = none_declared; functions = none_declared }
 
 marked_reads : (is_task : Bool) (parameter : List ℕ) (ts rest : List Lexeme) → SpellsTask is_task ts parameter → ReadsMarked is_task (ts ++ rest) parameter rest
 marked_reads false parameter ts rest s = ap (λ l. l ++ rest) s
-marked_reads true parameter ts rest (line, t, inside, parts, kind_is, words, line_is) = record { words = inside; reads = record { token = t; parts = ap (λ l. l ++ rest) parts; is = kind_is }; are = words }
+marked_reads true parameter ts rest (line, (t, inside, parts, kind_is, words, line_is)) = record { words = inside; reads = record { token = t; parts = ap (λ l. l ++ rest) parts; is = kind_is }; are = words }
 
 -- the line of the first token stays that of what it begins
 first_line_of : (ts rest : List Lexeme) (k : Kind) (ks : List Kind) → kinds ts ≡ k ∷ ks → first_line (ts ++ rest) ≡ first_line ts
@@ -293,7 +293,7 @@ marked_spelled : (is_task : Bool) (parameter : List ℕ) (ts rest : List Lexeme)
 marked_spelled false parameter ts rest r = record { front = []; parts = r; spells = refl }
 marked_spelled true parameter ts rest r =
     let n = r.reads in
-    record { front = n.token ∷ []; parts = n.parts; spells = (line_of n.token, n.token, r.words, refl, n.is, r.are, refl) }
+    record { front = n.token ∷ []; parts = n.parts; spells = (line_of n.token, (n.token, r.words, refl, n.is, r.are, refl)) }
 
 pub record FunctionFront (before : List (List ℕ)) (ts : List Lexeme) (name : List ℕ) (f : Function) (rest : List Lexeme) : Type 0 where
   pub front : List Lexeme

@@ -159,7 +159,7 @@ module _ (names : Names) (all : AreKnown names) where
           };
           reads = (function, name, refl, called names f function all called_is, variable_numbered names k name all.objects.different variable, argument_read name (h.behind ++ rest) rest (taken (argument name) h.behind rest h.others));
         }
-    statement_reads (Mark line d) ts rest none (in_main, t, inside, parts, kind_is, words, line_is) = record {
+    statement_reads (Mark line d) ts rest none (in_main, (t, inside, parts, kind_is, words, line_is)) = record {
       kind = Directive inside;
       behind = rest;
       begins = record { token = t; parts = ap (λ l. l ++ rest) parts; kind_is = kind_is; line_is = line_is; form_is = refl };
@@ -308,7 +308,7 @@ module _ (names : Names) where
     statement_spelled (Mark line d) {kind} b (inside, is, in_main, words, same) = record {
       front = b.token ∷ [];
       parts = b.parts ∙ ap (λ l. b.token ∷ l) same;
-      spells = (in_main, b.token, inside, refl, b.kind_is ∙ is, words, b.line_is);
+      spells = (in_main, (b.token, inside, refl, b.kind_is ∙ is, words, b.line_is));
     }
     statement_spelled (Put line e) {kind} b r = encloses names (Put line e) b r.1 (Word (codes "putchar")) (form_token kind forms.Put b.form_is) (λ part x. (r.0, x))
     statement_spelled (Return line e) {kind} b r = encloses names (Return line e) b r.1 (Word (codes "return")) (form_token kind forms.Return b.form_is) (λ part x. (r.0, x))
