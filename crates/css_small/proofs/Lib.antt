@@ -24,5 +24,6 @@ pub mod Programs
 pub mod FormReadings
 pub mod Rows
 pub mod Items
+pub mod Bodies
 pub mod Directives
 pub mod Numbers

@@ -13,7 +13,7 @@ returns-in_err-next-clause-not_spelled c = λ why last ss rest r close few.
     let here = lexemes c.loop-alloc.rest.now in
     let left = items_left (listed c.loop-alloc.items.items) ss c.args.names.now c.loop-alloc.names last (lexemes c.args.tokens.now) here rest c.loop-alloc.invariant.reads r close in
     let first = first_item left.others c.loop-alloc.names last here rest left.reads close (at_none c.after_marks.result c.is_none.result c.is_none.ensures c.loop-alloc-test.true c.after_marks.ensures.none) in
-    let high = c.in_err-next.ensures.not_spelled (passed c.from_residual.result c.in_err-next.field-0.0 c.from_residual.ensures.1 why) first.after first.first first.next first.reads (let l = first.few in omega arith) in
+    let high = c.in_err-next.ensures.not_spelled (passed c.from_residual.result c.in_err-next.field-0.0 c.from_residual.ensures.1 why) first.after first.first first.next first.reads (let l = first.few.0 in let m = first.few.1 in omega arith) in
     let a = left.height in
     let b = first.height in
     omega arith
