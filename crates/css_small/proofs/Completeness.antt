@@ -151,7 +151,6 @@ module _ (names : Names) (all : AreDifferent names.objects) where
       let parts : front ++ rest ≡ o.token ∷ inside =
       ap (λ l. l ++ rest) (o.parts ∙ ap (λ l. o.token ∷ l) (p.parts ∙ ap (λ l. p.left ++ l) last_is)) ∙ ap (λ l. o.token ∷ l) (append_assoc p.left (c.token ∷ []) rest) in
       subst (λ l. ReadsExpression names k l f last) (sym parts) (record { first = e; behind = rest; operand = readings.Bare operand; others = z })
-
   spelled_is_read (Index name i us parameter is d) front rest at stops k low f last z =
       let n = head_of front (Word name) (Punctuator (codes "[") ∷ (us ++ Punctuator (codes "]") ∷ [])) (at ∙ is) in
       let o = head_of n.behind (Punctuator (codes "[")) (us ++ Punctuator (codes "]") ∷ []) n.others in

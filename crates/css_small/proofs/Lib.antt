@@ -25,5 +25,6 @@ pub mod FormReadings
 pub mod Rows
 pub mod Items
 pub mod Bodies
+pub mod Functions
 pub mod Directives
 pub mod Numbers

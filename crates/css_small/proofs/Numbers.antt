@@ -198,7 +198,7 @@ functions_size (f ∷ fs) before all ts (us, vs, name, parts, s, more) =
 main_numbered : (functions : List (List ℕ)) (f : Function) (ts : List Lexeme) (count : ℕ) → length functions ≡ count → SpellsMain functions ts f → f.variables ≤ 1000 → (f.parameters ≡ 0) × (f.is_task ≡ false) × IsNumbered count f
 main_numbered functions f ts count is s few =
     let within = body_within (record { parameters = 0; objects = []; functions = functions }) s.block f.body f.variables f.end (omega arith) s.spells in
-    (s.is_main.0, s.is_main.1, numbered count 0 f s.is_main.0 few (subst (λ n. AllWithin (record { parameters = 0; objects = f.variables; functions = n }) f.body) is within))
+    (s.is_main.0, s.is_main.1, numbered count 0 f s.is_main.0 few (subst (λ n. AllWithin (record { parameters = 0; objects = 0 + f.variables; functions = n }) f.body) is within))
 
 pub program_numbers : (ts : List Lexeme) (p : Program) → IsProgram ts p → HasNumbers p
 program_numbers ts p h =
@@ -210,5 +210,5 @@ program_numbers ts p h =
     record {
       functions = functions_numbered p.functions [] s.names s.front s.functions h.variables_fit.1;
       few = omega arith;
-      main = main_numbered s.names p.main s.last (length p.functions) (counted p.functions [] s.names s.front s.functions) s.main h.variables_fit.0;
+      main = main_numbered s.names p.main s.last (length p.functions) (let l = counted p.functions [] s.names s.front s.functions in omega arith) s.main h.variables_fit.0;
     }

@@ -91,7 +91,6 @@ module _ (names : Names) where
           parts = parts;
           spells = Parentheses (kinds inside) kinds_are (subst (λ l. SpellsExpression names 0 l e) (sym (map-append kind_at first.front whole.front)) whole.spells);
         }
-
     primary_spelled {ts} {rest} {e} (readings.Index us vs ws xs a i parameter opens x y closes is) =
         let first = operand_spelled x in
         let whole = extends_spelled y (kinds first.front) 10 (omega arith) first.spells (stops_tightest 11 ws (omega arith)) in
@@ -110,7 +109,7 @@ module _ (names : Names) where
           front = front;
           parts = parts;
           spells = subst (λ f. SpellsExpression names 10 (kinds front) f) (sym is)
-          (Index parameter.name i (kinds inside) parameter.is kinds_are (subst (λ l. SpellsExpression names 0 l i) (sym (map-append kind_at first.front whole.front)) whole.spells));
+              (Index parameter.name i (kinds inside) parameter.is kinds_are (subst (λ l. SpellsExpression names 0 l i) (sym (map-append kind_at first.front whole.front)) whole.spells));
         }
 
     operand_spelled : {ts rest : List Lexeme} {e : Expression} → ReadsOperand names ts e rest → Spelled names 10 ts e rest

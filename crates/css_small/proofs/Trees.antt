@@ -315,7 +315,7 @@ pub record SameHeader (name other parameter q : List ℕ) (us vs : List Lexeme) 
   pub parameters : parameter ≡ q
   pub tokens : us ≡ vs
 
-one_declarator : (name other parameter q : List ℕ) (ts us vs : List Lexeme) → Takes (declarator name parameter) ts us → Takes (declarator other q) ts vs → SameHeader name other parameter q us vs
+pub one_declarator : (name other parameter q : List ℕ) (ts us vs : List Lexeme) → Takes (declarator name parameter) ts us → Takes (declarator other q) ts vs → SameHeader name other parameter q us vs
 one_declarator name other parameter q ts us vs (a, void, (b, named, list)) (a', void', (b', named', list')) =
     let before = same_behind void void' in
     let moved = subst (λ z. Next (Word other) z b') (sym before) named' in
@@ -324,7 +324,7 @@ one_declarator name other parameter q ts us vs (a, void, (b, named, list)) (a', 
     record { names = same_word name other named moved; parameters = both.0; tokens = both.1 }
 
 -- a directive is no word
-directive_no_word : (word : List ℕ) {words : Lexemes} {ts us vs : List Lexeme} → Next (Directive words) ts us → Next (Word word) ts vs → ⊥
+pub directive_no_word : (word : List ℕ) {words : Lexemes} {ts us vs : List Lexeme} → Next (Directive words) ts us → Next (Word word) ts vs → ⊥
 directive_no_word word {words} n m = absurd (let both : Directive words ≡ Word word = not_both n m in cc)
 
 one_marked : (a b : Bool) (p q : List ℕ) (ts : List Lexeme) {head other us vs : List Lexeme} → ReadsMarked a ts p head → ReadsMarked b ts q other → Next (Word (codes "void")) head us → Next (Word (codes "void")) other vs → (a ≡ b) × (head ≡ other)

@@ -12,7 +12,10 @@ use crate::tree::{Directive, Statement};
 use css_base::{Token, TokenKind};
 
 /// The directive of main at the front, and the tokens behind it.
-pub(super) fn directive_at<'a>(names: &Names, tokens: &'a [Token]) -> Option<(Statement, &'a [Token])>
+pub(super) fn directive_at<'a>(
+    names: &Names,
+    tokens: &'a [Token],
+) -> Option<(Statement, &'a [Token])>
     ensures found { IfSome result (λ x. ReadsStatement names.now (lexemes tokens.now) (statement x.0) (lexemes x.1.now)) }
     ensures low { IfSome result (λ x. height_of_statement (statement x.0) ≡ 0) }
     ensures none { IfNone result ((line : ℕ) (kind : Directive) (rest : List Lexeme)

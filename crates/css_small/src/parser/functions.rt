@@ -119,7 +119,9 @@ fn header_at(tokens: &[Token]) -> Option<Header<'_>>
     let Some((parameter, head)) = task_at(tokens) else {
         return declarator_at(tokens, false);
     };
-    let header = declarator_at(head, true)?;
+    let Some(header) = declarator_at(head, true) else {
+        return None;
+    };
     if header.parameter == parameter {
         Some(header)
     } else {
