@@ -1,15 +1,19 @@
 //! Texts and the trees that they spell.
-use crate::{Expression, Statement, read_program};
+use crate::{Expression, Function, Program, Statement, read_program};
 use css_base::FrontFault;
 use std::alloc::{AllocError, Global};
 use std::process::Abort;
 use std::test::Fail;
+
+mod directives;
+mod functions;
 
 /// Writes an expression with its operators in front and a pair of parentheses for each.
 fn write_expression(out: &mut String, e: &Expression) -> Result<(), AllocError> {
     match e {
         Expression::Number(value) => write!(out, "{value}"),
         Expression::Variable(k) => write!(out, "v{k}"),
+        Expression::Element(index) => write_element(out, index),
         Expression::Unary(op, a) => {
             write!(out, "({op:?} ")?;
             write_expression(out, a)?;
@@ -23,6 +27,13 @@ fn write_expression(out: &mut String, e: &Expression) -> Result<(), AllocError> 
             out.push_str(")")
         }
     }
+}
+
+/// Writes the element of the parameter at an index.
+fn write_element(out: &mut String, index: &Expression) -> Result<(), AllocError> {
+    out.push_str("p[")?;
+    write_expression(out, index)?;
+    out.push_str("]")
 }
 
 /// Writes what stands before the two operands.
@@ -113,6 +124,18 @@ fn write_simple(out: &mut String, statement: &Statement) -> Result<(), AllocErro
             write!(out, "{}:v{variable}=", line.number())?;
             write_expression(out, value)
         }
+        Statement::AssignElement { line, index, value } => {
+            write!(out, "{}:", line.number())?;
+            write_element(out, index)?;
+            out.push_str("=")?;
+            write_expression(out, value)
+        }
+        Statement::Call {
+            line,
+            function,
+            variable,
+        } => write!(out, "{}:f{function}(v{variable})", line.number()),
+        Statement::Directive { line, kind } => write!(out, "{}:{kind:?}", line.number()),
         Statement::Put { line, value } => {
             write!(out, "{}:put ", line.number())?;
             write_expression(out, value)
@@ -125,23 +148,38 @@ fn write_simple(out: &mut String, statement: &Statement) -> Result<(), AllocErro
     }
 }
 
+/// Writes what stands in a function, its lines, and how many variables it has.
+fn write_function(out: &mut String, function: &Function) -> Result<(), AllocError> {
+    if function.is_task {
+        out.push_str("task ")?;
+    }
+    for statement in &function.body {
+        write_statement(out, statement)?;
+        out.push_str(" ")?;
+    }
+    write!(
+        out,
+        "{}-{} {}",
+        function.line.number(),
+        function.end.number(),
+        function.variables
+    )
+}
+
+/// Writes the functions, each with ` | ` behind it, and main.
+fn write_program(out: &mut String, program: &Program) -> Result<(), AllocError> {
+    for function in &program.functions {
+        write_function(out, function)?;
+        out.push_str(" | ")?;
+    }
+    write_function(out, &program.main)
+}
+
 /// The program that a text spells, as it is written; or the rule that it breaks.
 fn read(alloc: Global, text: &str) -> Result<String, Fail> {
     let mut out = String::new(alloc);
     match read_program(alloc, text.as_bytes()) {
-        Ok(program) => {
-            for statement in &program.body {
-                write_statement(&mut out, statement)?;
-                out.push_str(" ")?;
-            }
-            write!(
-                &mut out,
-                "{}-{} {}",
-                program.line.number(),
-                program.end.number(),
-                program.variables
-            )?;
-        }
+        Ok(program) => write_program(&mut out, &program)?,
         Err(FrontFault::Static(fault)) => write!(
             &mut out,
             "{:?} {}",
@@ -359,13 +397,14 @@ fn is_read(alloc: Global, text: &str) -> Result<bool, Fail> {
     }
 }
 
-/// Main with a body of `front`, so many copies of `open`, `middle`, as many of `close`, and `back`.
+/// A body of `front`, so many copies of `open`, `middle`, as many of `close`, and `back`, between what stands before and behind it.
 fn nested(
     alloc: Global,
+    [before, behind]: [&str; 2],
     [front, open, middle, close, back]: [&str; 5],
     count: u32,
 ) -> Result<String, Fail> {
-    let mut text = String::from_str(alloc, "int main(void){")?;
+    let mut text = String::from_str(alloc, before)?;
     text.push_str(front)?;
     for _ in 0..count {
         text.push_str(open)?;
@@ -375,14 +414,17 @@ fn nested(
         text.push_str(close)?;
     }
     text.push_str(back)?;
-    text.push_str("}")?;
+    text.push_str(behind)?;
     Ok(text)
 }
 
+/// What stands round main's body.
+const IN_MAIN: [&str; 2] = ["int main(void){", "}"];
+
 /// Whether so many copies are read, and one more is not.
-fn is_most(alloc: Global, parts: [&str; 5], most: u32) -> Result<bool, Fail> {
-    let last = nested(alloc, parts, most)?;
-    let more = nested(alloc, parts, most.saturating_add(1))?;
+fn is_most(alloc: Global, around: [&str; 2], parts: [&str; 5], most: u32) -> Result<bool, Fail> {
+    let last = nested(alloc, around, parts, most)?;
+    let more = nested(alloc, around, parts, most.saturating_add(1))?;
     Ok(is_read(alloc, last.as_str())? && !is_read(alloc, more.as_str())?)
 }
 
@@ -414,7 +456,11 @@ fn limits(rt: HostRuntime) -> Result<(), Fail> {
         // Main has sixteen bytes of its own.
         (["", " ", "", "", ""], 4_194_288),
     ] {
-        assert!(rt; is_most(alloc, parts, most)?, "{most} of {}", parts[1]);
+        assert!(rt;
+            is_most(alloc, IN_MAIN, parts, most)?,
+            "{most} of {}",
+            parts[1]
+        );
     }
     Ok(())
 }
@@ -438,7 +484,7 @@ fn variables(rt: HostRuntime) -> Result<(), Fail> {
 #[test]
 fn many_operators(rt: HostRuntime) -> Result<(), Fail> {
     let alloc = rt.alloc();
-    let text = nested(alloc, ["int x=", "~", "1", "", ";"], 900_000)?;
+    let text = nested(alloc, IN_MAIN, ["int x=", "~", "1", "", ";"], 900_000)?;
     assert!(rt; !is_read(alloc, text.as_str())?);
     Ok(())
 }
