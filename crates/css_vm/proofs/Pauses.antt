@@ -1,33 +1,30 @@
 -- What the instructions do at which the steps of an activation pause.
-use Rattle.std.proofs.Common.{◌≡◌, ℕ, zero, suc, ◌+◌, ◌-◌, ◌*◌, ◌%◌, ◌^◌, ◌<◌, ◌≤◌, List, [], ◌∷◌, length, map, take, drop, reverse, Some, slice_get, nat_le, true, false, refl, sym, ap, ap₂, subst, ◌∙◌, arith, zero-add, le-leb, pow_pos, mod-lt, mod-eq_of_lt, inl, inr}
+use Rattle.std.proofs.Common.{◌≡◌, ℕ, zero, suc, ◌+◌, ◌-◌, ◌*◌, ◌%◌, ◌^◌, ◌<◌, ◌≤◌, List, [], ◌∷◌, length, take, drop, reverse, Some, slice_get, nat_le, true, false, refl, sym, ap, ap₂, subst, ◌∙◌, arith, zero-add, le-leb, pow_pos, mod-lt, mod-eq_of_lt, inl, inr}
 use Rattle.std.proofs.lemmas.List.{length-drop, length-reverse, length-take-le}
 use Rattle.css_base.specs.declared.ending.Stop.{Stop}
 use Rattle.css_base.specs.declared.ending.Stop.TheVariants as stops
 use Rattle.css_base.specs.declared.rule.Rule.TheVariants.{Units}
-use Rattle.css_semantics.specs.Dialogue.{Action, Enter, Turn, Leave, Out, Calls, Returns, Start, Finish, Barrier, Reply, Says, Fails, Refuses, Tape, World, Call, Outcome, Goes, Stops, then_do, ask, item, replied}
+use Rattle.css_semantics.specs.Dialogue.{Action, Turn, Leave, Out, Calls, Returns, Start, Finish, Barrier, Reply, Says, Tape, World, Call, Goes, then_do, ask, item, replied}
 use Rattle.css_semantics.specs.Units.{with_units, within, metered, spending}
-use Rattle.css_semantics.specs.Tasks.{is_started}
 use Rattle.css_vm.specs.declared.code.Op.{Op}
 use Rattle.css_vm.specs.declared.code.Op.TheVariants as ops
 use Rattle.css_vm.specs.declared.code.Conversion.{Conversion}
 use Rattle.css_vm.specs.declared.code.Conversion.TheVariants as conversions
 use Rattle.css_vm.specs.declared.code.MarkKind.{MarkKind}
 use Rattle.css_vm.specs.declared.code.MarkKind.TheVariants as marks
-use Rattle.css_vm.specs.declared.machine.Event.{Event}
 use Rattle.css_vm.specs.declared.machine.Event.TheVariants as events
 use Rattle.css_vm.specs.declared.machine.Submitted.{Submitted}
 use Rattle.css_vm.specs.declared.rounds.Round.TheVariants as rounds
-use Rattle.css_vm.specs.Cells.{truth}
 use Rattle.css_vm.specs.Code.{Routine, Shape, Code, all_dimensions, scalars_of, pointers_of, narrowed_to, call_of}
-use Rattle.css_vm.specs.Machine.{State, Begin, At, Activation, Caller, After, On, Finished, effect, next, calling, called, entered, on_function, on_task, on_many, frame_of, exec, go_on, answered}
-use Rattle.css_vm.specs.Soundness.{Spot, Leads, IsFine, IsSound, IsSpot, IsAt, Fits, Names, needs, takes, gives, arguments_taken, dimensions_taken, dimensions_of_task}
+use Rattle.css_vm.specs.Machine.{State, Begin, At, Activation, Caller, On, effect, next, calling, called, entered, frame_of, exec, go_on}
+use Rattle.css_vm.specs.Soundness.{Spot, Leads, IsFine, IsSound, IsSpot, Fits, Names, needs, takes, arguments_taken, dimensions_taken, dimensions_of_task}
 use Rattle.css_vm.specs.Spaces.{IsRefusal, IsStackPlace}
-use Rattle.css_vm.specs.Events.{Along, StopsAt, PassesCalls, IsStacked, StandAbove, Does, Falls, IsWhole, base_of}
+use Rattle.css_vm.specs.Events.{Along, StopsAt, PassesCalls, IsStacked, Does, Falls, IsWhole}
 use Rattle.css_vm.specs.Stacks.{running}
-use Rattle.css_vm.specs.States.{function_of, stack_of, depth, moved, pushed, dropped, with_callee, returned, marked, Submits}
-use Rattle.css_vm.specs.Steps.{HasInstr, IsBefore, ComesOn, ComesToStop, Enters, StopsEntering, Went, Comes, ComesRound}
+use Rattle.css_vm.specs.States.{function_of, stack_of, depth, moved, dropped, with_callee, returned, marked, Submits}
+use Rattle.css_vm.specs.Steps.{HasInstr, IsBefore, ComesOn, Enters, StopsEntering, Comes, ComesRound}
 use Rattle.css_vm.proofs.Requests.{along_map, along_none, along_says_then, along_refused_then}
-use Rattle.css_vm.proofs.Steps.{then_assoc, fine_at, next_at, stays_at, exec_step, step_on, step_stops}
+use Rattle.css_vm.proofs.Steps.{then_assoc, fine_at, next_at, stays_at, exec_step, step_on}
 use Rattle.css_vm.proofs.Runs.{plan_at}
 
 -- where a unit is left, the reply is as it is without units

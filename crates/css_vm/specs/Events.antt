@@ -3,7 +3,6 @@ use Rattle.std.specs.Prelude.{◌≡◌, ℕ, suc, ◌+◌, ◌<◌, ◌⊎◌, 
 use Rattle.css_base.specs.declared.ending.Stop.{Stop}
 use Rattle.css_semantics.specs.Dialogue.{Action, Reply, Says, Out, Calls, Returns, Start, Finish, Barrier, Call, Tape, World, Outcome, Goes, Stops, Stopped, item, then_do, ask}
 use Rattle.css_semantics.specs.Worlds.{state_after, AreOfMachine, Follows}
-use Rattle.css_semantics.specs.Units.{with_units, metered, spending}
 use Rattle.css_semantics.specs.Tasks.{is_started}
 use Rattle.css_vm.specs.declared.code.MarkKind.{MarkKind}
 use Rattle.css_vm.specs.declared.code.MarkKind.TheVariants as marks
@@ -12,7 +11,7 @@ use Rattle.css_vm.specs.declared.machine.Event.TheVariants as events
 use Rattle.css_vm.specs.Cells.{truth}
 use Rattle.css_vm.specs.declared.machine.Submitted.{Submitted}
 use Rattle.css_vm.specs.Code.{Routine, Shape, Code, all_dimensions, narrowed_to, call_of}
-use Rattle.css_vm.specs.Machine.{State, Begin, At, Activation, Caller, Finished, frame_of, exec, answered, IsOwed}
+use Rattle.css_vm.specs.Machine.{State, Begin, At, Caller, Finished, frame_of, exec, answered, IsOwed}
 use Rattle.css_vm.specs.Soundness.{Spot, IsSound, IsAt}
 
 -- ---- frames
