@@ -10,7 +10,8 @@ use Rattle.css_vm.specs.declared.code.Op.{Op}
 use Rattle.css_vm.specs.declared.code.Op.TheVariants as ops
 use Rattle.css_vm.specs.declared.code as coded
 use Rattle.css_vm.specs.Code.{Routine, Shape, Code, code_of}
-use Rattle.css_vm.specs.Machine.{Begin}
+use Rattle.css_vm.specs.Machine.{State, Begin, At, answered}
+use Rattle.css_vm.specs.Events.{IsStacked, Falls}
 use Rattle.css_vm.specs.Effects.{goes_on, no_functions}
 use Rattle.css_vm.specs.Soundness.{Spot, Stays, Leads, GoesOn, Names, IsFine, IsSoundBody, IsPart, AreParts, IsShapeOf, IsReached, Itself, Called, IsQuiet, IsSound, Fits, takes, gives, needs}
 
@@ -380,3 +381,17 @@ unary_fits a op on takes_one gives_one =
     let code = alone 0 (at_line (ops.Push a) 2 ∷ at_line op 3 ∷ at_line ops.Ret 4 ∷ []) in
     let plan : List Spot = spot 0 2 ∷ spot 1 1 ∷ spot 1 0 ∷ [] in
     fits_by code (plan ∷ []) 1 (rw (one_fine code plan 1 1 0 op refl on takes_one (omega arith) gives_one))
+
+-- ---- what a run leaves
+
+-- a machine that isn't owed an answer goes on
+pub left_fits : (code : Code) (old new : State) (units units' : ℕ) → Falls code old units new units' → Fits code old → Fits code new
+left_fits code old new units units' falls fits =
+    let next = falls fits.0 fits.2.0 fits.1 fits.2.1 in
+    (fits.0, fits.1, (next.0, next.1))
+
+-- an answer moves no frame
+pub answered_stacked : (code : Code) (place value : ℕ) (s : State) → IsStacked code place s → IsStacked code place (answered value s)
+answered_stacked code place value (Begin function arguments line) stacked = stacked
+answered_stacked code place value (At a callers at []) stacked = stacked
+answered_stacked code place value (At a callers at (x ∷ rest)) stacked = stacked
