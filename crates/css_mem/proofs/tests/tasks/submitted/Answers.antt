@@ -1,8 +1,6 @@
 use Rattle.std.proofs.Common.{[]}
-use Rattle.css_vm.specs.Code.{code_of, Code}
-use Rattle.css_vm.specs.Machine.{State, Begin}
-use Rattle.css_vm.specs.Soundness.{Fits}
-use Rattle.css_vm.specs.Events.{Falls}
+use Rattle.css_vm.specs.Code.{code_of}
+use Rattle.css_vm.specs.Machine.{Begin}
 use Rattle.css_vm.proofs.Runs.{answered_fits}
 use Rattle.css_mem.proofs.Checked.{left_fits, answered_stacked}
 use Rattle.css_mem.proofs.tests.tasks.submitted.Goals as goal

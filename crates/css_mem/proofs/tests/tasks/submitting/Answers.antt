@@ -1,4 +1,4 @@
-use Rattle.std.proofs.Common.{[], ◌∷◌, Some, true, false, map, refl}
+use Rattle.std.proofs.Common.{[], ◌∷◌, Some, false, map, refl}
 use Rattle.css_vm.specs.Spaces.{bytes_of}
 use Rattle.css_vm.specs.Code.{routine}
 use Rattle.css_mem.proofs.Checked.{spot, pair, fits_by, fits_alike}
