@@ -58,8 +58,8 @@ pub fn plain_top<S: Shelf, I: Source, O: Sink, R: Sink>(
         × Got (change R.written R.faults report.old report.new) read_fault }
 
     // 3 comes exactly where the text isn't of the part of the language that is built.
-    ensures refusal { result ≡ 3 → (text : List ℕ) × IsText words.now (S.file shelf.old) text × IsNotBuilt text }
-    ensures refusal_only { (request : Request) (text : List ℕ) → Asks words.now request → S.file shelf.old request.file ≡ Some text → IsNotBuilt text
+    ensures refusal { result ≡ 3 → (text : List ℕ) × IsText words.now (S.file shelf.old) text × IsOutside text }
+    ensures refusal_only { (request : Request) (text : List ℕ) → Asks words.now request → S.file shelf.old request.file ≡ Some text → IsOutside text
         → (result ≡ 3) ⊎ (6 ≤ result) }
 
     // A status below 6 is the answer's, with exactly the answer's bytes.
