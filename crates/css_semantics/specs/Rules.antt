@@ -121,7 +121,7 @@ is_in_frame place (frame ∷ frames) address size =
 
 abbrev pub is_outside : Body → (address size : ℕ) → Bool
 is_outside b address size =
-    not (list_any (λ a. is_in_window (window a) address size) b.call.arguments || is_in_frame b.call.stack_place b.frames address size)
+    not (list_any (λ u. is_in_window u.window address size) b.uses || is_in_frame b.place b.frames address size)
 
 abbrev pub is_outside_arguments : Body → Action → Bool
 is_outside_arguments b (Load address width) = is_outside b address width
@@ -130,7 +130,7 @@ is_outside_arguments b _ = false
 
 -- the byte at an address is in a window of such a direction
 abbrev pub is_given_for : (Direction → Bool) → Body → ℕ → Bool
-is_given_for which b address = list_any (λ a. which a.direction && has_byte (window a) address) b.call.arguments
+is_given_for which b address = list_any (λ u. which u.direction && has_byte u.window address) b.uses
 
 abbrev pub has_stored : Body → ℕ → Bool
 has_stored b address = list_any (λ r. is_between r.base (r.base + r.size) address) b.stored
@@ -148,7 +148,7 @@ is_unwritten_read b (Load address width) = some_from (is_unwritten b) address wi
 is_unwritten_read b _ = false
 
 abbrev pub is_left_unwritten : Body → Action → Bool
-is_left_unwritten b Returns = list_any (λ a. not (all_of_window (λ address. not (is_unwritten b address)) (window a))) b.call.arguments
+is_left_unwritten b Returns = list_any (λ u. not (all_of_window (λ address. not (is_unwritten b address)) u.window)) b.uses
 is_left_unwritten b _ = false
 
 -- ---- X13, X14 and X15: stacks and units

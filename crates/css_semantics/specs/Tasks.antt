@@ -91,10 +91,19 @@ pub record Range : Type 0 where
   pub base : ℕ
   pub size : ℕ
 
--- A task's call that hasn't returned: the bytes of its open frames, the innermost first, the units that it has taken, and the bytes
--- that it has stored.
+-- a window, and what the task does with it
+pub record Use : Type 0 where
+  pub window : Window
+  pub direction : Direction
+
+abbrev pub use_of : Argument → Use
+use_of a = record { window = window a; direction = a.direction }
+
+-- A task's call that hasn't returned: what it is given, the stack place at its entry, the bytes of its open frames, the innermost
+-- first, the units that it has taken, and the bytes that it has stored.
 pub record Body : Type 0 where
-  pub call : Call
+  pub uses : List Use
+  pub place : ℕ
   pub frames : List ℕ
   pub units : ℕ
   pub stored : List Range
@@ -117,14 +126,19 @@ stored_after ranges _ = ranges
 
 abbrev pub body_behind : Body → Action → Body
 body_behind b action = record {
-  call = b.call;
+  uses = b.uses;
+  place = b.place;
   frames = frames_after b.frames action;
   units = b.units + unit_of action;
   stored = stored_after b.stored action;
 }
 
+-- a task's body before its entry
+abbrev pub entry_of : List Use → (place : ℕ) → Body
+entry_of uses place = record { uses = uses; place = place; frames = []; units = 0; stored = [] }
+
 abbrev pub body_after : Option Body → Action → Option Body
-body_after body (Calls call) = Some (record { call = call; frames = []; units = 0; stored = [] })
+body_after body (Calls call) = Some (entry_of (map use_of call.arguments) call.stack_place)
 body_after body Returns = None
 body_after body action = option_map (λ b. body_behind b action) body
 

@@ -209,7 +209,8 @@ abbrev pub source : World → ℕ → Program → Outcome ℤ
 source w fuel p =
     then_do (applied w (calls w p.functions fuel) fuel p.main [] p.main.line []) (main_left w (frame_of p.main))
 
--- the dialogue of a function alone, with its arguments, from its entry in a line; its value
+-- the dialogue of a function alone as a task's body, with its arguments, from its entry in a line; its value
 abbrev pub alone : World → ℕ → Function → (arguments : List ℕ) → (line : ℕ) → Outcome ℤ
 alone w fuel f arguments line =
-    then_do (applied w (calls w [] fuel) fuel f arguments line []) (λ exit t. then_do (left w (frame_of f) exit t) (λ r t'. Goes exit.value t'))
+    then_do (applied w (calls w [] fuel) fuel f arguments line []) (λ exit t. then_do (left w (frame_of f) exit t) (λ r t'.
+    then_do (ask w Returns exit.line t') (λ r' t''. Goes exit.value t'')))

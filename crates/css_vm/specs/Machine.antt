@@ -233,12 +233,13 @@ target w code n =
     let f = slice_get code.functions code.main in
     then_do (exec w code n (Begin code.main [] (entry_line f)) []) (main_ends w (frame_of f))
 
--- another function alone leaves its frame
+-- a task's body alone leaves its frame and returns
 abbrev pub body_ends : World → (frame : ℕ) → Halt → Tape → Outcome (Option ℕ)
-body_ends w frame (Finished cell base line) tape = then_do (ask w (Leave base frame) line tape) (λ r t. Goes (Some cell) t)
+body_ends w frame (Finished cell base line) tape =
+    then_do (ask w (Leave base frame) line tape) (λ r t. then_do (ask w Returns line t) (λ r' t'. Goes (Some cell) t'))
 body_ends w frame Stuck tape = Goes None tape
 
--- the dialogue of a function alone, with its arguments, from its entry in a line
+-- the dialogue of a function alone as a task's body, with its arguments, from its entry in a line
 abbrev pub alone : World → Code → (function : ℕ) → (arguments : List ℕ) → (line : ℕ) → ℕ → Outcome (Option ℕ)
 alone w code function arguments line n =
     then_do (exec w code n (Begin function arguments line) []) (body_ends w (frame_of (slice_get code.functions function)))
