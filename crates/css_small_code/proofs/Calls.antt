@@ -1,5 +1,5 @@
 -- The machine follows functions, and calls of them.
-use Rattle.std.proofs.Common.{◌≡◌, ℕ, zero, suc, ◌+◌, ◌*◌, ◌%◌, ◌^◌, ◌<◌, ◌≤◌, pos, Bool, true, false, ◌&&◌, if◌then◌else◌, List, [], ◌∷◌, ◌++◌, length, All, Option, Some, None, refl, sym, ap, ◌∙◌, subst, arith, length-append}
+use Rattle.std.proofs.Common.{◌≡◌, ℕ, zero, suc, ◌+◌, ◌%◌, ◌^◌, ◌<◌, Bool, true, false, ◌&&◌, if◌then◌else◌, List, [], ◌∷◌, ◌++◌, length, All, Option, Some, None, refl, sym, ap, ◌∙◌, subst, arith, length-append}
 use Rattle.std.specs.Prelude.{slice_get}
 use Rattle.std.proofs.lemmas.Bool.{le-leb}
 use Rattle.css_semantics.specs.Memory.{big_endian_bytes}
@@ -14,11 +14,11 @@ use Rattle.css_vm.specs.Cells.{cell_of, truth}
 use Rattle.css_vm.specs.Machine as machine
 use Rattle.css_vm.specs.Machine.{Halt, Activation, Caller, At, On, on_function, on_many, on_task, entered, calling, go_on, exec}
 use Rattle.css_small.specs.Tree.{Function}
-use Rattle.css_small.specs.Numbers.{Scope, IsNumbered}
+use Rattle.css_small.specs.Numbers.{IsNumbered}
 use Rattle.css_small_code.specs.Code.{statements_code, end_code, call_code, is_task_there, body_code, task_shape, function_code}
 use Rattle.css_small_code.specs.Meaning as meaning
 use Rattle.css_small_code.specs.Meaning.{place_of, address_of, frame_of, meanings, Calling, Exit, exit_by, applied, left, plain_call, task_call_of, task_body, calls}
-use Rattle.css_small_code.proofs.Runs.{Run, Landing, Runs, runs_done, runs_fewer, runs_counted, runs_as, runs_asks, runs_then, runs_behind, then_assoc}
+use Rattle.css_small_code.proofs.Runs.{Run, Landing, Runs, runs_done, runs_counted, runs_as, runs_asks, runs_then, runs_behind, then_assoc}
 use Rattle.css_small_code.proofs.Places.{scope_of, item_at, holds_at}
 use Rattle.css_small_code.proofs.Stands.{Stands, stands_front, stands_back, stands_whole}
 use Rattle.css_small_code.proofs.LineStands.{OpsStand}

@@ -1,5 +1,5 @@
 -- Addresses: those of variables and elements, which cells hold modulo 2^32.
-use Rattle.std.proofs.Common.{◌≡◌, ℕ, ◌+◌, ◌*◌, ◌%◌, ◌^◌, ℤ, pos, ◌+ℤ◌, ◌*ℤ◌, refl, sym, ap, ◌∙◌, lit<}
+use Rattle.std.proofs.Common.{◌≡◌, ℕ, ◌+◌, ◌*◌, ◌%◌, ◌^◌, ℤ, pos, ◌*ℤ◌, refl, lit<}
 use Rattle.css_base.specs.declared.int_type.IntType.TheVariants.{UInt}
 use Rattle.css_num.specs.Conversion.{modulo, converted}
 use Rattle.css_num.proofs.Congruence.{AreCongruent, congruent_refl, congruent_sym, congruent_trans, congruent-add, congruent-mul, congruent_below, congruent-modulo, congruent-converted, modulo-congruent}

@@ -1,22 +1,22 @@
 -- A program's code has the program's dialogue, and each of its functions alone has its own.
-use Rattle.std.proofs.Common.{◌≡◌, ℕ, ℤ, pos, zero, suc, ◌+◌, ◌<◌, Bool, true, false, nat_eq, All, List, [], ◌∷◌, ◌++◌, map, length, Option, Some, None, refl, sym, ap, ◌∙◌, subst, arith}
+use Rattle.std.proofs.Common.{◌≡◌, ℕ, ℤ, pos, Bool, true, false, nat_eq, List, [], ◌∷◌, ◌++◌, length, Some, refl, sym, ap, ◌∙◌, subst}
 use Rattle.std.specs.Prelude.{slice_get}
 use Rattle.std.proofs.lemmas.Bool.{eqb-true}
 use Rattle.css_base.specs.declared.int_type.IntType.TheVariants.{Int}
 use Rattle.css_num.specs.Types.{IsInRange}
-use Rattle.css_semantics.specs.Dialogue.{Leave, Returns, End, Tape, World, Outcome, Goes, Stops, then_do, ask}
+use Rattle.css_semantics.specs.Dialogue.{Leave, Returns, End, Tape, World, Outcome, Goes, then_do, ask}
 use Rattle.css_vm.specs.declared.code.Instr.{Instr}
 use Rattle.css_vm.specs.declared.code.Op.TheVariants as ops
 use Rattle.css_vm.specs.Code.{Routine, Code, first_line}
-use Rattle.css_vm.specs.Cells.{cell_of, int_of}
+use Rattle.css_vm.specs.Cells.{cell_of}
 use Rattle.css_vm.specs.Machine as machine
 use Rattle.css_vm.specs.Machine.{Halt, Finished, Begin, At, On, on_function, entered, beginning, entry_line, main_ends, body_ends, go_on, exec, target}
 use Rattle.css_small.specs.Tree.{Function, Program}
 use Rattle.css_small.specs.Numbers.{IsNumbered, HasNumbers}
-use Rattle.css_small_code.specs.Code.{statements_code, end_code, entry_code, body_code, function_code, main_code, program_code}
-use Rattle.css_small_code.specs.Meaning.{frame_of, Exit, exit_by, meanings, applied, calls, finished, left, main_left, source, alone}
+use Rattle.css_small_code.specs.Code.{statements_code, end_code, function_code, main_code, program_code}
+use Rattle.css_small_code.specs.Meaning.{frame_of, Exit, applied, calls, finished, left, main_left, source, alone}
 use Rattle.css_small_code.specs.Correct.{SameDialogue, Codes}
-use Rattle.css_small_code.proofs.Runs.{Run, Landing, Runs, runs_done, runs_step, runs_as, runs_asks, runs_then, runs_known, runs_ending, then_assoc}
+use Rattle.css_small_code.proofs.Runs.{Landing, Runs, runs_done, runs_step, runs_as, runs_asks, runs_then, runs_known, runs_ending, then_assoc}
 use Rattle.css_small_code.proofs.Ends.{whole, Finishes, same_dialogue}
 use Rattle.css_small_code.proofs.Places.{mapped_at, last_at, holds_at}
 use Rattle.css_small_code.proofs.Stands.{Stands}

@@ -1,6 +1,5 @@
 -- Where a function's statements lead: to a place behind them, or out of the function.
 use Rattle.std.proofs.Common.{◌≡◌, ℕ, suc, ◌+◌, ℤ, pos, Bool, true, false, List, [], ◌∷◌, refl, ap, ◌∙◌, subst}
-use Rattle.std.specs.Prelude.{slice_get}
 use Rattle.css_semantics.specs.Dialogue.{Leave, Tape, World, Outcome, Goes, then_do, ask}
 use Rattle.css_vm.specs.declared.code.Op.TheVariants as ops
 use Rattle.css_vm.specs.Code.{Routine, Code}
@@ -10,7 +9,7 @@ use Rattle.css_small_code.specs.Code.{end_code}
 use Rattle.css_small_code.specs.Meaning.{Flow, Next, Returned, Exit, exit_by}
 use Rattle.css_small_code.proofs.Runs.{Run, Landing, Runs, runs_done, runs_step}
 use Rattle.css_small_code.proofs.Stands.{Stands}
-use Rattle.css_small_code.proofs.Steps.{Running, state, From, OpAt, one_step, runs_quiet}
+use Rattle.css_small_code.proofs.Steps.{Running, state, OpAt, one_step, runs_quiet}
 
 module _ (w : World) (code : Code) (function : ℕ) (is_task : Bool) (callers : List Caller) (f : Routine) where
   -- the function's activation with a frame at a base

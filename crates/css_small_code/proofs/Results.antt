@@ -1,13 +1,13 @@
 -- The values that functions return are ints.
-use Rattle.std.proofs.Common.{◌≡◌, ℕ, zero, suc, ◌+◌, ℤ, pos, Bool, true, false, List, [], ◌∷◌, if◌then◌else◌, arith}
+use Rattle.std.proofs.Common.{ℕ, zero, suc, ◌+◌, ℤ, Bool, true, false, [], ◌∷◌, if◌then◌else◌, arith}
 use Rattle.css_base.specs.declared.int_type.IntType.TheVariants.{Int}
 use Rattle.css_num.specs.Types.{IsInRange}
 use Rattle.css_num.specs.Conversion.{modulo}
 use Rattle.css_semantics.specs.Dialogue.{Enter, Turn, Out, Tape, World, Outcome, Goes, Stops, then_do, ask}
 use Rattle.css_small.specs.Tree as tree
 use Rattle.css_small.specs.Tree.{Expression, Statement, Declare, Initialise, Empty, Assign, AssignElement, Call, Mark, Put, Return, Block, If, IfElse, While, Statements, More, Function}
-use Rattle.css_small.specs.Numbers.{Scope, IsWithin, AreWithin, AllWithin, IsNumbered}
-use Rattle.css_small_code.specs.Meaning.{address_of, action_of, Flow, Next, Returned, on_next, is_true, value_of, store, element, Calling, turning, assigned, element_assigned, meaning, meanings, Exit, exit_by, frame_of, stores, applied}
+use Rattle.css_small.specs.Numbers.{Scope, AreWithin, AllWithin, IsNumbered}
+use Rattle.css_small_code.specs.Meaning.{address_of, action_of, Flow, Next, Returned, on_next, is_true, value_of, store, element, Calling, turning, meaning, meanings, Exit, exit_by, frame_of, applied}
 use Rattle.css_small_code.proofs.Runs.{Gives, gives_any, gives_then}
 use Rattle.css_small_code.proofs.InRange.{number_in_range, value_in_range}
 

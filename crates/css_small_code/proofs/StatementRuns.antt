@@ -4,8 +4,7 @@ use Rattle.std.specs.Prelude.{slice_get}
 use Rattle.css_base.specs.declared.int_type.IntType.TheVariants.{Int}
 use Rattle.css_num.specs.Types.{IsInRange}
 use Rattle.css_num.specs.Conversion.{modulo}
-use Rattle.css_semantics.specs.Memory.{big_endian_bytes}
-use Rattle.css_semantics.specs.Dialogue.{Store, Out, Turn, Tape, World, Outcome, Goes, Stops, then_do, ask}
+use Rattle.css_semantics.specs.Dialogue.{Store, Out, Turn, Tape, World, Outcome, Goes, then_do, ask}
 use Rattle.css_vm.specs.declared.code.Op.TheVariants as ops
 use Rattle.css_vm.specs.declared.code.Conversion.TheVariants as conversions
 use Rattle.css_vm.specs.Code.{Code}
@@ -19,7 +18,7 @@ use Rattle.css_small_code.specs.Code.{in_line, expression_code, assignment_code,
 use Rattle.css_small_code.specs.Meaning.{place_of, address_of, Flow, Next, Returned, on_next, store, value_of, Calling, action_of, turning, assigned, element_assigned, meaning, meanings}
 use Rattle.css_small.specs.Numbers.{Scope, IsWithin, AreWithin, AllWithin}
 use Rattle.css_small_code.proofs.Lines.{length-in_line}
-use Rattle.css_small_code.proofs.Runs.{Run, Landing, Runs, runs_done, runs_fewer, runs_counted, runs_step, runs_asks, runs_then, runs_behind, runs_known, then_assoc}
+use Rattle.css_small_code.proofs.Runs.{Landing, Runs, runs_done, runs_fewer, runs_counted, runs_step, runs_asks, runs_then, runs_behind, runs_known, then_assoc}
 use Rattle.css_small_code.proofs.Stands.{Stands, stands_front, stands_back}
 use Rattle.css_small_code.proofs.LineStands.{OpsStand, ops_front, ops_back}
 use Rattle.css_small_code.proofs.Steps.{Running, state, From, OpAt, effect_at, value_at, one_step, runs_quiet, runs_asking}

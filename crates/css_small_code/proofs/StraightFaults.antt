@@ -3,7 +3,7 @@ use Rattle.std.proofs.Common.{◌≡◌, ℕ, suc, ◌+◌, ◌-◌, ◌≤◌, 
 use Rattle.std.specs.Prelude.{slice_get}
 use Rattle.std.proofs.lemmas.Option.{slice_get-get_or}
 use Rattle.css_base.specs.declared.ending.FaultKind.TheVariants.{DivideByZero}
-use Rattle.css_semantics.specs.Dialogue.{Tape, World, Goes, then_do, fault}
+use Rattle.css_semantics.specs.Dialogue.{Tape, World, Goes, fault}
 use Rattle.css_vm.specs.declared.code.Op.{Op}
 use Rattle.css_vm.specs.declared.code.Op.TheVariants as ops
 use Rattle.css_vm.specs.Cells.{cell_of}

@@ -2,7 +2,7 @@
 use Rattle.std.proofs.Common.{◌≡◌, ℕ, suc, ◌+◌, Bool, true, false, List, [], ◌∷◌, length, Option, Some, None, nat_eq, if◌then◌else◌, refl, ap, ◌∙◌, arith}
 use Rattle.std.specs.Prelude.{slice_get}
 use Rattle.css_base.specs.declared.ending.FaultKind.TheVariants.{DivideByZero}
-use Rattle.css_semantics.specs.Dialogue.{Tape, World, Outcome, Goes, then_do, fault}
+use Rattle.css_semantics.specs.Dialogue.{Tape, World, Outcome, Goes, fault}
 use Rattle.css_vm.specs.declared.code.Op.{Op}
 use Rattle.css_vm.specs.declared.code.Op.TheVariants as ops
 use Rattle.css_vm.specs.Code.{Code}

@@ -1,5 +1,5 @@
 -- Variables that have a place in a frame: a function has at most 1,000 behind its parameter, so a place has 32 bits.
-use Rattle.std.specs.Prelude.{ℕ, ◌≤◌, Bool, true, false}
+use Rattle.std.specs.Prelude.{◌≤◌, Bool, true, false}
 use Rattle.css_small.specs.Tree.{Expression, Number, Variable, Element, Unary, Binary, And, Or, Statement, Declare, Initialise, Empty, Assign, AssignElement, Call, Mark, Put, Return, Block, If, IfElse, While, Statements, End, More}
 
 abbrev pub HasPlaces : Expression → Type 0

@@ -1,5 +1,4 @@
 -- What the functions of the tests' programs may name.
-use Rattle.std.specs.Prelude.{ℕ}
 use Rattle.css_small.specs.Numbers.{Scope}
 
 -- main with two variables, which may call two functions

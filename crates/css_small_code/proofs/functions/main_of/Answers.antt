@@ -1,4 +1,4 @@
-use Rattle.std.proofs.Common.{◌≡◌, length, sym, subst, arith}
+use Rattle.std.proofs.Common.{length, sym, subst, arith}
 use Rattle.css_small.specs.Tree.{function, listed}
 use Rattle.css_small_code.specs.Places.{AllPlaced}
 use Rattle.css_small_code.proofs.Trees.{function_placed}

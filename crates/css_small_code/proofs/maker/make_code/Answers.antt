@@ -1,4 +1,4 @@
-use Rattle.std.proofs.Common.{◌≡◌, length, map, sym, ap, ◌∙◌, subst, rules}
+use Rattle.std.proofs.Common.{◌≡◌, length, map, ap, ◌∙◌, subst, rules}
 use Rattle.css_small.specs.Tree.{function, program}
 use Rattle.css_small_code.specs.Code.{function_code, main_code}
 use Rattle.css_small_code.specs.Correct.{Codes}

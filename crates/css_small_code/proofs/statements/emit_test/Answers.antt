@@ -1,5 +1,4 @@
 use Rattle.std.proofs.Common.{[], ◌∷◌}
-use Rattle.std.proofs.lemmas.Result.{on_ok_weaker}
 use Rattle.css_vm.specs.declared.code.Op.TheVariants as ops
 use Rattle.css_small.specs.Tree.{expression}
 use Rattle.css_small_code.proofs.Emitted.{ended}
