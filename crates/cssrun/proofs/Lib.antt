@@ -1,6 +1,7 @@
 pub mod Exec
 pub mod Sinks
 pub mod Turns
+pub mod Unmarked
 pub mod Parts
 pub mod Fuel
 pub mod Words
