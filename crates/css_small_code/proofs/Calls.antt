@@ -117,12 +117,12 @@ module _ (w : World) (code : Code) (functions : List Function) (numbers : All (�
         runs_asks leaving (λ k. then_assoc leaving back (go_on (exec w code k)))
 
     -- that of a task's body is the task's too
-    task_returns : (n at : ℕ) (stack : List ℕ) (exit : Exit) (t : Tape) → Runs n (λ k. Exiting w code number true (waiting at stack) (function_code f) k exit t) (Behind at (cell_of exit.value ∷ stack))
+    task_returns : (n at : ℕ) (stack : List ℕ) (exit : Exit) (t : Tape) → Runs n (λ k. Exiting w code number true (waiting at stack) (function_code f) k exit t) (Behind at (0 ∷ stack))
         (then_do (left w (frame_of f) exit t) (λ r t'. ask w Returns exit.line t'))
     task_returns n at stack exit t =
         let leaving = left w (frame_of f) exit t in
         let returns = λ (t' : Tape). ask w Returns exit.line t' in
-        let back = λ (r : ℕ) (t' : Tape). Goes (On (state w code here at (cell_of exit.value ∷ stack))) t' in
+        let back = λ (r : ℕ) (t' : Tape). Goes (On (state w code here at (0 ∷ stack))) t' in
         runs_then (runs_asks {land = λ k r t'. then_do (then_do (returns t') back) (go_on (exec w code k))} leaving (λ k. then_assoc leaving (λ r t'. then_do (returns t') back) (go_on (exec w code k))))
         (λ r t'. runs_asks (returns t') (λ k. then_assoc (returns t') back (go_on (exec w code k))))
 
@@ -163,8 +163,7 @@ module _ (w : World) (code : Code) (functions : List Function) (numbers : All (�
         runs_as (λ k. then_do enters (λ base t'. go_on (exec w code k) (On (At (activation_at w code number true (waiting (at + 1) stack) (function_code f) base) (waiting (at + 1) stack) 0 [])) t'))
         (λ k. then_assoc enters after (go_on (exec w code k)))
         (runs_then (function_runs number true (waiting (at + 1) stack) f call m cell (cell % 2 ^ 32) line t found known (bytes_of-address cell)) (λ exit t'.
-        let cell' = cell_of exit.value in
-        runs_behind (task_returns m (at + 1) stack exit t') (λ r t''. runs_quiet w code here line (ops.Jump to) to (cell' ∷ stack) jumps refl (dropped m line to cell' r stack t'' drops))))
+        runs_behind (task_returns m (at + 1) stack exit t') (λ r t''. runs_quiet w code here line (ops.Jump to) to (0 ∷ stack) jumps refl (dropped m line to 0 r stack t'' drops))))
 
     -- a task's call where tasks are made, behind its argument
     task_runs : (m : ℕ) (call : Calling) (cell line at to : ℕ) (stack : List ℕ) (t : Tape) → f.is_task ≡ true → OpAt w code here line at (ops.Submit number) → OpAt w code here line (at + 1) (ops.Jump to) → OpAt w code here line to ops.Drop →

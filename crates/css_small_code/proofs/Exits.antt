@@ -4,7 +4,7 @@ use Rattle.css_semantics.specs.Dialogue.{Leave, Tape, World, Outcome, Goes, then
 use Rattle.css_vm.specs.declared.code.Op.TheVariants as ops
 use Rattle.css_vm.specs.Code.{Routine, Code}
 use Rattle.css_vm.specs.Cells.{cell_of}
-use Rattle.css_vm.specs.Machine.{Halt, Activation, Caller, At, On, on_function, task_returned, returning, go_on, exec}
+use Rattle.css_vm.specs.Machine.{Halt, Activation, Caller, At, On, on_function, task_returned, given_back, returning, go_on, exec}
 use Rattle.css_small_code.specs.Code.{end_code}
 use Rattle.css_small_code.specs.Meaning.{Flow, Next, Returned, Exit, exit_by}
 use Rattle.css_small_code.proofs.Runs.{Run, Landing, Runs, runs_done, runs_step}
@@ -24,8 +24,8 @@ module _ (w : World) (code : Code) (function : ℕ) (is_task : Bool) (callers : 
 module _ (w : World) (code : Code) (a : Activation) (callers : List Caller) (line place : ℕ) (f : Routine) (cell : ℕ) (t : Tape) where
   -- a return is the same at each place
   returned_at : (c : Caller) (others : List Caller) (is_task : Bool) →
-      then_do (ask w (Leave a.base f.frame) line t) (λ r t'. then_do (task_returned w code a callers line place is_task t') (λ r' t''. Goes (On (At c.activation others c.place (cell ∷ c.stack))) t''))
-      ≡ then_do (ask w (Leave a.base f.frame) line t) (λ r t'. then_do (task_returned w code a callers line 0 is_task t') (λ r' t''. Goes (On (At c.activation others c.place (cell ∷ c.stack))) t''))
+      then_do (ask w (Leave a.base f.frame) line t) (λ r t'. then_do (task_returned w code a callers line place is_task t') (λ r' t''. Goes (On (At c.activation others c.place (given_back a.is_task cell ∷ c.stack))) t''))
+      ≡ then_do (ask w (Leave a.base f.frame) line t) (λ r t'. then_do (task_returned w code a callers line 0 is_task t') (λ r' t''. Goes (On (At c.activation others c.place (given_back a.is_task cell ∷ c.stack))) t''))
   returned_at c others true = refl
   returned_at c others false = refl
 
