@@ -4,6 +4,8 @@ pub mod Turns
 pub mod Unmarked
 pub mod Parts
 pub mod Fuel
+pub mod Directives
+pub mod Shorter
 pub mod Words
 pub mod Endings
 pub mod Runs

@@ -14,10 +14,12 @@ use Rattle.css_vm.specs.Events.{Falls, IsStacked}
 use Rattle.cssrun.specs.Answer.{ending_of}
 use Rattle.cssrun.specs.Ends.{change}
 use Rattle.cssrun.specs.declared.run.Ran.{Ran}
+use Rattle.cssrun.specs.declared.run.Ran.TheVariants.{NoMemory}
 use Rattle.cssrun.specs.Ran.{RanAs}
 use Rattle.cssrun.specs.Running.{ComesTo, Running, GoesOn, EndsRun}
-use Rattle.cssrun.proofs.Sinks.{Appends-nothing, RanAs-more}
-use Rattle.cssrun.proofs.Turns.{running_begun}
+use Rattle.css_small_code.specs.Marks.{HasNoMarks}
+use Rattle.cssrun.proofs.Sinks.{Appends-nothing, AppendsPrefix-nothing, RanAs-more}
+use Rattle.cssrun.proofs.Turns.{output-running, running_begun}
 
 module _ {S : Type 0} (told : S → Option (List ℕ)) (faults : S → ℕ) (code : Code) where
   -- nothing was done
@@ -45,6 +47,12 @@ module _ {S : Type 0} (told : S → Option (List ℕ)) (faults : S → ℕ) (cod
             (two.running memory units o ending (written ++ one.front) is between);
         never_fell = omega (arith, one.never_fell, two.never_fell);
       }
+
+  -- where no more is done, the sink has a prefix
+  pub gives_up : HasNoMarks code → (s : State) (space : Metered Memory) (pending : List ℕ) (out : S) → EndsRun code s space pending (change told faults out out) NoMemory
+  gives_up plain s space pending out memory units o ending written is run =
+      let more = output-running code plain memory units o s space (written ++ pending) run in
+      (pending ++ more.0, more.1 ∙ append_assoc written pending more.0, AppendsPrefix-nothing (told out) (pending ++ more.0))
 
   -- one part, and then the last one
   pub goes_to_end : (s s' : State) (space space' : Metered Memory) (pending pending' : List ℕ) (out out' out'' : S) (ran : Ran)

@@ -1,5 +1,5 @@
 -- Main's run in the flat memory, from event to event.
-use Rattle.std.proofs.Common.{◌≡◌, ℕ, suc, ℤ, pos, ◌+◌, ◌≤◌, List, [], ◌∷◌, ◌++◌, length, Bool, false, if◌then◌else◌, Some, slice_get, refl, sym, ap, ◌∙◌, subst, append_assoc, arith}
+use Rattle.std.proofs.Common.{◌≡◌, ℕ, suc, ℤ, pos, ◌+◌, ◌≤◌, List, [], ◌∷◌, ◌++◌, length, Bool, false, if◌then◌else◌, Option, Some, slice_get, refl, sym, ap, ◌∙◌, subst, append_assoc, arith}
 use Rattle.std.proofs.lemmas.List.{append-nil}
 use Rattle.css_base.specs.declared.ending.Ending.{Ending}
 use Rattle.css_base.specs.declared.ending.Ending.TheVariants as endings
@@ -15,19 +15,22 @@ use Rattle.css_semantics.specs.Units.{Metered, with_units, metered, spending}
 use Rattle.css_semantics.specs.Flat.{flat, reply_in, no_frames}
 use Rattle.css_semantics.proofs.FlatWorld.{flat-follows}
 use Rattle.css_semantics.proofs.Following.{after_both, same_output, same_started}
+use Rattle.css_vm.specs.declared.code.MarkKind.{MarkKind}
 use Rattle.css_vm.specs.declared.code.MarkKind.TheVariants as marks
 use Rattle.css_vm.specs.declared.machine.Event.{Event}
 use Rattle.css_vm.specs.declared.machine.Event.TheVariants as events
 use Rattle.css_vm.specs.Code.{Code}
 use Rattle.css_vm.specs.Cells.{int_of, truth}
 use Rattle.css_vm.specs.Machine.{State, Begin, At, Halt, Finished, exec, main_ends, entry_line, answered}
-use Rattle.css_vm.specs.Events.{Reaches, IsStacked, base_of, Does}
+use Rattle.css_vm.specs.Spaces.{IsRefusal}
+use Rattle.css_vm.specs.Events.{Reaches, IsInside, IsStacked, base_of, Does}
 use Rattle.css_small_code.specs.Marks.{HasNoMarks}
 use Rattle.cssrun.specs.Answer.{ending_of}
-use Rattle.cssrun.specs.Ends.{Change}
+use Rattle.cssrun.specs.Ends.{Change, change}
 use Rattle.cssrun.specs.Pending.{Passes}
 use Rattle.cssrun.specs.Running.{halted, main_frame, Running, ComesTo, GoesOn, left_with, reply_to_leaving}
 use Rattle.cssrun.proofs.Exec.{IsSettled, IsAny, target-more, target-extends, Extends, output-extends}
+use Rattle.cssrun.proofs.Sinks.{Appends-nothing}
 
 -- ---- outcomes
 
@@ -231,3 +234,29 @@ turn_out code plain old new space space' bytes pending pending' c reaches (front
           (running_out code plain memory units o ending is old new space space' (written ++ pending) bytes reaches run);
       never_fell = never_fell;
     }
+
+-- up to a question whether tasks are made
+pub turn_asked : {S : Type 0} (told : S → Option (List ℕ)) (faults : S → ℕ) (code : Code) → HasNoMarks code → (old new : State) (space space' : Metered Memory) (kind : MarkKind) (line : ℕ) (pending : List ℕ) (out : S)
+    → Reaches (metered reply_in) (spending after) code old space (events.Mark kind line) new space' → kind ≡ marks.Started
+    → GoesOn code old space (answered 0 new) space' pending pending (change told faults out out)
+turn_asked told faults code plain old new space space' kind line pending out reaches asks =
+    record {
+      front = [];
+      got = Appends-nothing (told out);
+      running = λ memory units o ending written is run.
+          let asked = subst (λ k. Reaches (metered reply_in) (spending after) code old space (events.Mark k line) new space') asks reaches in
+          subst (λ b. Running memory units code o (answered 0 new) space' (b ++ pending)) (sym (append-nil written))
+          (running_asked code plain memory units o ending is old new space space' (written ++ pending) line asked run);
+      never_fell = omega arith;
+    }
+
+-- a machine inside a function has its frame at the space's stack place
+pub at_place : (code : Code) (place : ℕ) (s : State) → IsInside s → IsStacked code place s → base_of s ≡ place
+at_place code place (Begin function arguments line) inside stacked = absurd inside
+at_place code place (At a callers at stack) inside stacked = stacked.0
+
+-- a stop as main leaves its frame
+pub left_refused : (reply : Reply) (stop : Stop) (cell line : ℕ) → IsRefusal reply stop → endings.Stopped stop line Main ≡ left_with reply cell line
+left_refused (Says r) stop cell line is = absurd is
+left_refused Fails stop cell line is = ap (λ s. endings.Stopped s line Main) is
+left_refused (Refuses rule) stop cell line is = ap (λ s. endings.Stopped s line Main) is
