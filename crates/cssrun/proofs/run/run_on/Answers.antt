@@ -1,5 +1,6 @@
 use Rattle.css_semantics.specs.Units.{with_units}
 use Rattle.css_vm.specs.Code.{code_of}
+use Rattle.cssrun.specs.declared.run.Ran.TheVariants.{NoMemory}
 use Rattle.cssrun.proofs.Parts.{goes_nowhere, goes_further, goes_to_end, gives_up}
 use Rattle.cssrun.proofs.run.run_on.Goals as goal
 
@@ -31,3 +32,10 @@ loop-preserved g c = record {
       (with_units c.args.space.now c.args.units.now) (with_units c.loop.space c.loop.units) (with_units c.turn.new.space c.turn.new.units)
       c.args.pending.now c.loop.pending c.turn.new.pending c.args.out.now c.loop.out c.turn.new.out c.loop.invariant.goes_on c.in_default.ensures.goes_on;
 }
+
+pub returns-clause-ends : goal.returns-clause-ends
+returns-clause-ends g c =
+    goes_to_end g.O.Sink.written g.O.Sink.faults (code_of c.args.code.now) c.args.machine.now c.loop.machine
+    (with_units c.args.space.now c.args.units.now) (with_units c.loop.space c.loop.units) c.args.pending.now c.loop.pending
+    c.args.out.now c.loop.out c.loop.out NoMemory c.loop.invariant.goes_on
+    (gives_up g.O.Sink.written g.O.Sink.faults (code_of c.args.code.now) c.requires.no_marks c.loop.machine (with_units c.loop.space c.loop.units) c.loop.pending c.loop.out)

@@ -1,4 +1,5 @@
 use Rattle.std.proofs.Common.{◌++◌, ◌∙◌, append_assoc, subst}
+use Rattle.css_vm.specs.Code.{code_of}
 use Rattle.css_vm.specs.Events.{IsOwedAt}
 use Rattle.cssrun.proofs.Parts.{fits_answered, stacked_answered}
 use Rattle.cssrun.proofs.Sinks.{AppendsPrefix-nothing, AppendsPrefix-front}
@@ -56,7 +57,7 @@ pub returns-in-Ended-clause-ends : goal.returns-in-Ended-clause-ends
 returns-in-Ended-clause-ends g c = λ memory units o ending written is run.
     let reaches = rw c.in-Ended.is at c.in-Ok.ensures.event in
     let leaves = rw c.in-Ended.is at c.in-Ok.ensures.leaves in
-    let place = at_place _ _ c.run_to_event.new.self leaves.0 leaves.1 in
+    let place = at_place (code_of c.args.code.now) _ c.run_to_event.new.self leaves.0 leaves.1 in
     let ended = running_ended _ c.requires.no_marks memory units o ending is c.args.machine.now c.run_to_event.new.self _ _ (written ++ c.args.pending.now) c.in-Ended.value c.in-Ended.line reaches place run in
     (c.args.pending.now, ended.1, rw ended.0 at c.returned.ensures)
 

@@ -9,3 +9,5 @@ use Rattle.cssrun.proofs.Sinks.{Appends-nothing, AppendsPrefix-nothing}
 use Rattle.cssrun.proofs.Texts.{text_refused}
 use Rattle.cssrun.proofs.top.run_text.Goals as goal
 
+pub run_program-requires-clause-numbers : goal.run_program-requires-clause-numbers
+run_program-requires-clause-numbers g c = c.numbers_fit.ensures _ (program c.in-Ok-read_program.tree) c.in-Ok-read_program.ensures.ok.1
