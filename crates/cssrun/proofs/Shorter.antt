@@ -13,11 +13,11 @@ take_short (suc n) (b ∷ bytes) = (let rest = take_short n bytes in omega (arit
 
 filter_short : (test : ℕ → Bool) (bytes : List ℕ) → length (filter test bytes) ≤ length bytes
 filter_short test [] = omega arith
-filter_short test (b ∷ bytes) = by (test b)
+filter_short test (b ∷ bytes) = by (test b) (filter_short test bytes)
   where
-    by : (kept : Bool) → length (cond kept (b ∷ filter test bytes) (filter test bytes)) ≤ suc (length bytes)
-    by true = (let rest = filter_short test bytes in omega (arith, rest))
-    by false = (let rest = filter_short test bytes in omega (arith, rest))
+    by : (kept : Bool) → length (filter test bytes) ≤ length bytes → length (cond kept (b ∷ filter test bytes) (filter test bytes)) ≤ suc (length bytes)
+    by true rest = omega (arith, rest)
+    by false rest = omega (arith, rest)
 
 kept_short : (kind : LineKind) (part : List ℕ) → length (kept_of kind part) ≤ length part
 kept_short kind part = by (is_css kind)
@@ -43,13 +43,16 @@ line_short text line others high rises short =
 lines_short : (text : List ℕ) (from : ℕ) (front bytes : List SourceByte) → AreBetween from (length text) bytes
     → length (left_of text (lines_from from (length text) front bytes)) + from ≤ length text
 lines_short text from front [] between = line_short text (record { bytes = front; from = from; to = length text }) [] (length text) between (omega arith)
-lines_short text from front (c ∷ bytes) between = by (c.byte == 10)
+lines_short text from front (c ∷ bytes) between =
+    by (c.byte == 10) (lines_short text (c.place + 1) [] bytes between.2)
+    (lines_short text from (front ++ c ∷ []) bytes (from_lower from (c.place + 1) (length text) bytes (omega (arith, between.0)) between.2))
   where
-    by : (newline : Bool) → length (left_of text (cond newline (record { bytes = front; from = from; to = c.place + 1 } ∷ lines_from (c.place + 1) (length text) [] bytes) (lines_from from (length text) (front ++ c ∷ []) bytes))) + from ≤ length text
-    by true =
-        line_short text (record { bytes = front; from = from; to = c.place + 1 }) (lines_from (c.place + 1) (length text) [] bytes) (length text) (omega (arith, between.0))
-        (lines_short text (c.place + 1) [] bytes between.2)
-    by false = lines_short text from (front ++ c ∷ []) bytes (from_lower from (c.place + 1) (length text) bytes (omega (arith, between.0)) between.2)
+    by : (newline : Bool) → length (left_of text (lines_from (c.place + 1) (length text) [] bytes)) + (c.place + 1) ≤ length text
+        → length (left_of text (lines_from from (length text) (front ++ c ∷ []) bytes)) + from ≤ length text
+        → length (left_of text (cond newline (record { bytes = front; from = from; to = c.place + 1 } ∷ lines_from (c.place + 1) (length text) [] bytes) (lines_from from (length text) (front ++ c ∷ []) bytes))) + from ≤ length text
+    by true ended longer =
+        line_short text (record { bytes = front; from = from; to = c.place + 1 }) (lines_from (c.place + 1) (length text) [] bytes) (length text) (omega (arith, between.0)) ended
+    by false ended longer = longer
 
 pub erased_short : (text : List ℕ) → length (erased text) ≤ length text
 erased_short text = (let short = lines_short text 0 [] (shown_bytes text) (shown_between text) in omega (arith, short))
