@@ -122,9 +122,6 @@ body_reads names all ss variables end ts rest s =
       line_is = s.closes_is.1;
     }
 
-none_known : AreKnown (in_main [])
-none_known = record { objects = none_declared; functions = none_declared }
-
 marked_reads : (is_task : Bool) (parameter : List ℕ) (ts rest : List Lexeme) → SpellsTask is_task ts parameter → ReadsMarked is_task (ts ++ rest) parameter rest
 marked_reads false parameter ts rest s = ap (λ l. l ++ rest) s
 marked_reads true parameter ts rest (line, (t, inside, parts, kind_is, words, line_is)) = record { words = inside; reads = record { token = t; parts = ap (λ l. l ++ rest) parts; is = kind_is }; are = words }
