@@ -259,7 +259,12 @@ fn calls_take_units(rt: HostRuntime) -> Result<(), Fail> {
     ];
     for (units, report, status) in rows {
         let words = ["cssrun", "erased", "--main-units", units, "f.c"];
-        let called = call(&rt, &words, ("f.c", CALLS_THRICE.as_bytes()), &NOTHING_FAILS)?;
+        let called = call(
+            &rt,
+            &words,
+            ("f.c", CALLS_THRICE.as_bytes()),
+            &NOTHING_FAILS,
+        )?;
         expect(&rt, &called, "", report, status);
     }
     Ok(())
