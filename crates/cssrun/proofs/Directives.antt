@@ -22,9 +22,9 @@ no_directive bytes kind inside has is = subst (λ k. HasKind bytes k) is has
 quiet_tokens : (line place : ℕ) (text : List ℕ) (ts : List Lexeme) → SpellsFrom line place text ts → AreQuiet ts
 quiet_tokens line place text [] spells = tt
 quiet_tokens line place text (t ∷ ts) spells = (
-    λ inside is. no_directive spells.1.bytes spells.1.kind inside spells.1.has_kind (sym (ap kind_at spells.1.is) ∙ is),
-    quiet_tokens (line_of t) (end_of t) spells.0 ts spells.2,
-  )
+  λ inside is. no_directive spells.1.bytes spells.1.kind inside spells.1.has_kind (sym (ap kind_at spells.1.is) ∙ is),
+  quiet_tokens (line_of t) (end_of t) spells.0 ts spells.2,
+)
 
 front_quiet : (xs ys : List Lexeme) → AreQuiet (xs ++ ys) → AreQuiet xs
 front_quiet [] ys quiet = tt
