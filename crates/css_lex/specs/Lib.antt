@@ -4,6 +4,7 @@ pub mod Comments
 pub mod Fronts
 pub mod Lines
 pub mod Lexemes
+pub mod Longest
 pub mod Values
 pub mod Macros
 pub mod Reading

@@ -5,11 +5,13 @@ use Rattle.css_base.specs.declared.static_fault.StaticName.{StaticName}
 use Rattle.css_base.specs.declared.static_fault.StaticName.TheVariants as names
 use Rattle.css_lex.specs.declared.line_kind.LineKind.{LineKind}
 use Rattle.css_lex.specs.declared.line_kind.LineKind.TheVariants as kinds
+use Rattle.css_lex.specs.declared.pieces.Shape.{Shape}
+use Rattle.css_lex.specs.declared.pieces.Shape.TheVariants as shapes
 use Rattle.css_lex.specs.declared.source.SourceByte.{SourceByte}
 use Rattle.css_lex.specs.Source.{begins_with, unspliced, bytes_of}
 use Rattle.css_lex.specs.Comments.{length_before}
 use Rattle.css_lex.specs.Lines.{kind_of_line}
-use Rattle.css_lex.specs.Lexemes.{Shape, Lexeme, Stray, Piece}
+use Rattle.css_lex.specs.Lexemes.{Piece}
 use Rattle.css_lex.specs.Macros.{Table, may_define, replacement, replacement_names, predefined_macros}
 use Rattle.css_lex.specs.Reading.{ReadLine, Definition, over_lines, solid, read_pieces, kind_of_piece, place_of, definition_of, undefined_of}
 use Rattle.css_lex.specs.Spelling.{line_at, first_place}
@@ -42,11 +44,11 @@ unended_comments text bytes =
     map (λ b. breach names.BadToken b.place) (filter (λ b. (b.byte == 32) && begins_unended text b.place) bytes)
 
 abbrev pub is_stray : Shape → Bool
-is_stray Stray = true
+is_stray shapes.Stray = true
 is_stray _ = false
 
 abbrev pub is_lexeme : Shape → Bool
-is_lexeme (Lexeme class) = true
+is_lexeme (shapes.Lexeme class) = true
 is_lexeme _ = false
 
 -- Where a token is read and none is spelled: also a constant that isn't ended, and `#` behind another token.

@@ -7,12 +7,14 @@ mod erasure;
 mod laws;
 mod lexeme_class;
 mod line_kind;
+mod pieces;
 mod source;
 
 pub use erasure::erase;
 pub use laws::{erasing_keeps_newlines, erasing_twice_is_once};
 pub use lexeme_class::LexemeClass;
 pub use line_kind::LineKind;
+pub use pieces::Shape;
 pub use source::SourceByte;
 
 #[cfg(test)]
