@@ -11,3 +11,9 @@ pub mod Cutting
 pub mod Shifting
 pub mod SpliceCuts
 pub mod Twice
+pub mod Classes
+pub mod Longest
+pub mod Punctuators
+pub mod Foremost
+pub mod Within
+pub mod LinePieces

@@ -11,7 +11,9 @@ mod pieces;
 mod source;
 
 pub use erasure::erase;
-pub use laws::{erasing_keeps_newlines, erasing_twice_is_once};
+pub use laws::{
+    erasing_keeps_newlines, erasing_twice_is_once, lines_have_pieces, pieces_are_unique,
+};
 pub use lexeme_class::LexemeClass;
 pub use line_kind::LineKind;
 pub use pieces::Shape;
