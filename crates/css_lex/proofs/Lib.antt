@@ -17,3 +17,4 @@ pub mod Punctuators
 pub mod Foremost
 pub mod Within
 pub mod LinePieces
+pub mod Escapes

@@ -9,6 +9,7 @@ mod lexeme_class;
 mod line_kind;
 mod pieces;
 mod source;
+mod values;
 
 pub use erasure::erase;
 pub use laws::{
