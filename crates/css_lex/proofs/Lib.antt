@@ -11,3 +11,4 @@ pub mod Cutting
 pub mod Shifting
 pub mod SpliceCuts
 pub mod Twice
+pub mod MacroTables

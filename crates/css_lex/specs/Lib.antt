@@ -6,6 +6,8 @@ pub mod Lines
 pub mod Lexemes
 pub mod Values
 pub mod Macros
+pub mod MacroTokens
+pub mod MacroTables
 pub mod Reading
 pub mod Spelling
 pub mod Refusals

@@ -3,16 +3,22 @@
 
 mod characters;
 mod comments;
+mod counts;
 mod erasure;
 mod laws;
 mod lexeme_class;
 mod line_kind;
+mod macro_token;
+mod macros;
 mod source;
 
+pub use counts::{Counts, ExpansionFault};
 pub use erasure::erase;
 pub use laws::{erasing_keeps_newlines, erasing_twice_is_once};
 pub use lexeme_class::LexemeClass;
 pub use line_kind::LineKind;
+pub use macro_token::MacroToken;
+pub use macros::{Definition, Macros};
 pub use source::SourceByte;
 
 #[cfg(test)]
