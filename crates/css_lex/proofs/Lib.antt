@@ -18,3 +18,4 @@ pub mod Foremost
 pub mod Within
 pub mod LinePieces
 pub mod Escapes
+pub mod MacroTables

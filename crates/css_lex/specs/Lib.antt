@@ -7,6 +7,8 @@ pub mod Lexemes
 pub mod Longest
 pub mod Values
 pub mod Macros
+pub mod MacroTokens
+pub mod MacroTables
 pub mod Reading
 pub mod Spelling
 pub mod Refusals

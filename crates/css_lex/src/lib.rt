@@ -3,20 +3,26 @@
 
 mod characters;
 mod comments;
+mod counts;
 mod erasure;
 mod laws;
 mod lexeme_class;
 mod line_kind;
+mod macro_token;
+mod macros;
 mod pieces;
 mod source;
 mod values;
 
+pub use counts::{Counts, ExpansionFault};
 pub use erasure::erase;
 pub use laws::{
     erasing_keeps_newlines, erasing_twice_is_once, lines_have_pieces, pieces_are_unique,
 };
 pub use lexeme_class::LexemeClass;
 pub use line_kind::LineKind;
+pub use macro_token::MacroToken;
+pub use macros::{Definition, Macros};
 pub use pieces::Shape;
 pub use source::SourceByte;
 
