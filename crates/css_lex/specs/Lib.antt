@@ -10,6 +10,7 @@ pub mod Macros
 pub mod MacroTokens
 pub mod MacroTables
 pub mod Reading
+pub mod Costs
 pub mod Spelling
 pub mod Refusals
 pub mod Lexing

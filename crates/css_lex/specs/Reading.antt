@@ -62,6 +62,15 @@ last_place (b ∷ c ∷ bytes) = last_place (c ∷ bytes)
 abbrev pub end_of : Piece → ℕ
 end_of p = last_place p.bytes + 1
 
+-- The place of the first one of some pieces, and the place behind the last one.
+abbrev pub first_place : List Piece → ℕ
+first_place pieces = slice_index (map place_of pieces) 0
+
+abbrev pub last_end : List Piece → ℕ
+last_end [] = 0
+last_end (p ∷ []) = end_of p
+last_end (p ∷ q ∷ pieces) = last_end (q ∷ pieces)
+
 -- What a `#define` says: a name, and the pieces that stand for it.
 pub record Definition : Type 0 where
   pub name : List ℕ
@@ -107,11 +116,6 @@ table_by _ table pieces = table
 
 abbrev pub table_behind : Table → ReadLine → Table
 table_behind table r = table_by (kind_of_line r.line) table r.pieces
-
--- What the lines give one after the other, each with the macros that are defined where it stands.
-abbrev pub over_lines : {A : Type 0} → (Table → ReadLine → List A) → Table → List ReadLine → List A
-over_lines give table [] = []
-over_lines give table (r ∷ lines) = give table r ++ over_lines give (table_behind table r) lines
 
 -- The pieces of a line that are read as tokens: all of a text line, the words of a directive behind `#`, `pragma` and `css`,
 -- and what stands behind `#` and `define`.

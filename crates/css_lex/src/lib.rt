@@ -1,6 +1,7 @@
 //! The lexer: translation phases 1 to 4 and 6 of C99 5.1.1.2, and the text that is left without its directives.
 #![tactic(auto)]
 
+mod breach;
 mod characters;
 mod comments;
 mod counts;
@@ -14,6 +15,7 @@ mod pieces;
 mod source;
 mod values;
 
+pub use breach::Breach;
 pub use counts::{Counts, ExpansionFault};
 pub use erasure::erase;
 pub use laws::{
