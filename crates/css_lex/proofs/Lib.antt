@@ -19,3 +19,4 @@ pub mod Within
 pub mod LinePieces
 pub mod Escapes
 pub mod MacroTables
+pub mod Spelled

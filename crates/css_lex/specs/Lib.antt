@@ -13,4 +13,5 @@ pub mod Reading
 pub mod Costs
 pub mod Spelling
 pub mod Refusals
+pub mod Words
 pub mod Lexing

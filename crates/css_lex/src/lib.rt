@@ -11,9 +11,11 @@ mod lexeme_class;
 mod line_kind;
 mod macro_token;
 mod macros;
+mod numbered;
 mod pieces;
 mod source;
 mod values;
+mod words;
 
 pub use breach::Breach;
 pub use counts::{Counts, ExpansionFault};
