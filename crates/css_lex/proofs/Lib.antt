@@ -20,3 +20,4 @@ pub mod LinePieces
 pub mod Escapes
 pub mod MacroTables
 pub mod Spelled
+pub mod WordsRead
