@@ -12,3 +12,6 @@ pub mod Shifting
 pub mod SpliceCuts
 pub mod Twice
 pub mod MacroTables
+pub mod Levels
+pub mod Frames
+pub mod Replacing

@@ -5,6 +5,7 @@ mod characters;
 mod comments;
 mod counts;
 mod erasure;
+mod expansion;
 mod laws;
 mod lexeme_class;
 mod line_kind;
@@ -14,6 +15,7 @@ mod source;
 
 pub use counts::{Counts, ExpansionFault};
 pub use erasure::erase;
+pub use expansion::Span;
 pub use laws::{erasing_keeps_newlines, erasing_twice_is_once};
 pub use lexeme_class::LexemeClass;
 pub use line_kind::LineKind;
