@@ -1,6 +1,6 @@
 -- What replaces a token while macros are being replaced.
 use Rattle.std.proofs.Common.{◌≡◌, ◌≢◌, ℕ, ◌+◌, Bool, true, false, cond, ◌||◌, Bor, List, [], ◌∷◌, ◌++◌, length, flat_map, sum_by, Option, Some, None, refl, ap, sym, ◌∙◌, arith, append_assoc}
-use Rattle.std.proofs.lemmas.List.{nil_from_length}
+use Rattle.std.proofs.lemmas.List.{nil_from_length, append-nil}
 use Rattle.std.proofs.lemmas.List.Sums.{sum_by-cons}
 use Rattle.std.proofs.lemmas.Slice.Eq.{bytes_eq-Decides}
 use Rattle.std.specs.Prelude.{bytes_eq}
@@ -129,3 +129,17 @@ ended table frames f old new is before after removed =
         ∙ ap (λ v. cond (bytes_eq f.name.now name.now) false v) (is.hides name ∙ ap (λ fs. is_hidden fs name.now) before ∙ hidden-snoc frames f name.now)
         ∙ cases (bytes_eq f.name.now name.now) refl ∙ ap (λ fs. is_hidden fs name.now) (sym after) in
     record { stack = rw after (stack-pop table frames f stack); hides = hides; }
+
+-- A macro that is replaced with no other around it.
+pub beginning : (table : Table) (name : List ℕ) (d : Definition) (frames : List Frame) (f : Frame)
+    → macro_of table name ≡ Some (macro_value d) → f.name.now ≡ name → f.rest.now ≡ d.tokens.items → frames ≡ f ∷ []
+    → left table frames ≡ replacement table (Word name)
+beginning table name d frames f found named rest one =
+    ap (λ fs. left table fs) one ∙ entering table (Word name) [] f (macro-replaces table [] name d f refl found named rest)
+    ∙ append-nil (replacement table (Word name))
+
+pub beginning-names : (table : Table) (name : List ℕ) (d : Definition) (frames : List Frame) (f : Frame)
+    → macro_of table name ≡ Some (macro_value d) → f.name.now ≡ name → f.rest.now ≡ d.tokens.items → frames ≡ f ∷ []
+    → 1 + names_left table frames ≡ replacement_names table (Word name)
+beginning-names table name d frames f found named rest one =
+    ap (λ fs. 1 + names_left table fs) one ∙ entering-names table (Word name) [] f (macro-replaces table [] name d f refl found named rest) ∙ omega arith

@@ -194,6 +194,7 @@ impl Macros {
             name: name.as_slice(),
             rest: found.tokens.as_slice(),
         })?;
-        expansion.replace_rest(alloc, self, span, counts, tokens)
+        expansion.replace_rest(alloc, self, span, counts, tokens)?;
+        Ok(())
     }
 }
