@@ -15,3 +15,5 @@ pub mod MacroTables
 pub mod Levels
 pub mod Frames
 pub mod Replacing
+pub mod PlainKinds
+pub mod Definitions

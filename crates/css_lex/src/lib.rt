@@ -9,6 +9,7 @@ mod expansion;
 mod laws;
 mod lexeme_class;
 mod line_kind;
+mod macro_laws;
 mod macro_token;
 mod macros;
 mod source;
@@ -19,6 +20,10 @@ pub use expansion::Span;
 pub use laws::{erasing_keeps_newlines, erasing_twice_is_once};
 pub use lexeme_class::LexemeClass;
 pub use line_kind::LineKind;
+pub use macro_laws::{
+    defining_sets_one_name, levels_are_enough, other_names_stay, tokens_replace_a_macro,
+    undefining_takes_one_name,
+};
 pub use macro_token::MacroToken;
 pub use macros::{Definition, Macros};
 pub use source::SourceByte;
