@@ -1,11 +1,11 @@
 -- A table's length is levels enough for what is replaced, and what replaces a macro's name.
-use Rattle.std.proofs.Common.{◌≡◌, ◌≢◌, ℕ, zero, suc, ◌+◌, ◌<◌, ◌≤◌, Bool, true, false, cond, List, [], ◌∷◌, ◌++◌, length, flat_map, sum_by, Option, Some, None, refl, ap, sym, ◌∙◌, arith}
+use Rattle.std.proofs.Common.{◌≡◌, ℕ, zero, suc, ◌+◌, ◌≤◌, Bool, true, false, cond, List, [], ◌∷◌, ◌++◌, length, flat_map, sum_by, Option, Some, None, refl, ap, sym, ◌∙◌, arith}
 use Rattle.std.specs.Prelude.{bytes_eq, count_by, is_some}
 use Rattle.std.specs.Option.{option_flatten}
-use Rattle.std.specs.Map.{lookup, set_value}
+use Rattle.std.specs.Map.{lookup}
 use Rattle.std.proofs.lemmas.Map.{length-set_value}
 use Rattle.std.proofs.lemmas.List.Sums.{count_by-le-length, sum_by-cons}
-use Rattle.css_base.specs.Tokens.{Kind, Word, Number, Character, Text, Punctuator, Directive}
+use Rattle.css_base.specs.Tokens.{Kind, Word}
 use Rattle.css_lex.specs.Macros.{Macro, Table, macro_of, undefined, replaced, names_replaced, replacement, replacement_names}
 
 -- How many names of a table are macros.
@@ -19,18 +19,18 @@ fewer (e ∷ table) name m found =
     let there : Option Macro = macro_of table name in
     let rest : Table = undefined table name in
     let P : Bool → Type 0 = λ b. option_flatten (cond b (Some e.1) (lookup (bytes_eq name) table)) ≡ Some m
-        → macros_in (cond b ((e.0, None) ∷ table) (e ∷ rest)) + 1 ≡ macros_in (e ∷ table) in
+    → macros_in (cond b ((e.0, None) ∷ table) (e ∷ rest)) + 1 ≡ macros_in (e ∷ table) in
     let one : List ℕ × Option Macro → ℕ = λ e. cond (is_some e.1) 1 0 in
     let here : e.1 ≡ Some m → macros_in ((e.0, None) ∷ table) + 1 ≡ macros_in (e ∷ table) = λ h.
-        let counted : one e ≡ 1 = ap (λ o. cond (is_some o) 1 0) h in
-        let before = sum_by-cons one (e.0, None) table in
-        let after = sum_by-cons one e table in
-        omega arith in
+    let counted : one e ≡ 1 = ap (λ o. cond (is_some o) 1 0) h in
+    let before = sum_by-cons one (e.0, None) table in
+    let after = sum_by-cons one e table in
+    omega arith in
     let behind : there ≡ Some m → macros_in (e ∷ rest) + 1 ≡ macros_in (e ∷ table) = λ h.
-        let more = fewer table name m h in
-        let before = sum_by-cons one e rest in
-        let after = sum_by-cons one e table in
-        omega arith in
+    let more = fewer table name m h in
+    let before = sum_by-cons one e rest in
+    let after = sum_by-cons one e table in
+    omega arith in
     let cases : (b : Bool) → P b = λ b. elim b as P [ true ↦ here | false ↦ behind ] in
     cases (bytes_eq name e.0) found
 
@@ -56,23 +56,22 @@ pub levels_enough : (a b : ℕ) (table : Table) (kind : Kind) → macros_in tabl
 levels_enough zero zero table kind few few' = refl
 levels_enough zero (suc b) table (Word name) few few' =
     let cases : (found : Option Macro) → macro_of table name ≡ found → Word name ∷ [] ≡ by_macro b table name found =
-        λ found. elim found as (λ o. macro_of table name ≡ o → Word name ∷ [] ≡ by_macro b table name o)
-        [ None ↦ λ e. refl | Some m ↦ λ e. let less = fewer table name m e in absurd (omega arith) ] in
+    λ found. elim found as (λ o. macro_of table name ≡ o → Word name ∷ [] ≡ by_macro b table name o)
+    [ None ↦ λ e. refl | Some m ↦ λ e. let less = fewer table name m e in absurd (omega arith) ] in
     cases (macro_of table name) refl
 levels_enough (suc a) zero table (Word name) few few' =
     let cases : (found : Option Macro) → macro_of table name ≡ found → by_macro a table name found ≡ Word name ∷ [] =
-        λ found. elim found as (λ o. macro_of table name ≡ o → by_macro a table name o ≡ Word name ∷ [])
-        [ None ↦ λ e. refl | Some m ↦ λ e. let less = fewer table name m e in absurd (omega arith) ] in
+    λ found. elim found as (λ o. macro_of table name ≡ o → by_macro a table name o ≡ Word name ∷ [])
+    [ None ↦ λ e. refl | Some m ↦ λ e. let less = fewer table name m e in absurd (omega arith) ] in
     cases (macro_of table name) refl
 levels_enough (suc a) (suc b) table (Word name) few few' =
     let cases : (found : Option Macro) → macro_of table name ≡ found → by_macro a table name found ≡ by_macro b table name found =
-        λ found. elim found as (λ o. macro_of table name ≡ o → by_macro a table name o ≡ by_macro b table name o)
-        [
-          | None ↦ λ e. refl
-          | Some m ↦ λ e. let less = fewer table name m e in
-              same_flat_map (λ k. replaced a (undefined table name) k) (λ k. replaced b (undefined table name) k)
-              (λ k. levels_enough a b (undefined table name) k (omega arith) (omega arith)) m.tokens
-        ] in
+    λ found. elim found as (λ o. macro_of table name ≡ o → by_macro a table name o ≡ by_macro b table name o) [
+      | None ↦ λ e. refl
+      | Some m ↦ λ e. let less = fewer table name m e in
+          same_flat_map (λ k. replaced a (undefined table name) k) (λ k. replaced b (undefined table name) k)
+          (λ k. levels_enough a b (undefined table name) k (omega arith) (omega arith)) m.tokens
+    ] in
     cases (macro_of table name) refl
 levels_enough zero (suc b) table kind few few' = refl
 levels_enough (suc a) zero table kind few few' = refl
@@ -82,23 +81,22 @@ pub levels_enough-names : (a b : ℕ) (table : Table) (kind : Kind) → macros_i
 levels_enough-names zero zero table kind few few' = refl
 levels_enough-names zero (suc b) table (Word name) few few' =
     let cases : (found : Option Macro) → macro_of table name ≡ found → 0 ≡ names_by_macro b table name found =
-        λ found. elim found as (λ o. macro_of table name ≡ o → 0 ≡ names_by_macro b table name o)
-        [ None ↦ λ e. refl | Some m ↦ λ e. let less = fewer table name m e in absurd (omega arith) ] in
+    λ found. elim found as (λ o. macro_of table name ≡ o → 0 ≡ names_by_macro b table name o)
+    [ None ↦ λ e. refl | Some m ↦ λ e. let less = fewer table name m e in absurd (omega arith) ] in
     cases (macro_of table name) refl
 levels_enough-names (suc a) zero table (Word name) few few' =
     let cases : (found : Option Macro) → macro_of table name ≡ found → names_by_macro a table name found ≡ 0 =
-        λ found. elim found as (λ o. macro_of table name ≡ o → names_by_macro a table name o ≡ 0)
-        [ None ↦ λ e. refl | Some m ↦ λ e. let less = fewer table name m e in absurd (omega arith) ] in
+    λ found. elim found as (λ o. macro_of table name ≡ o → names_by_macro a table name o ≡ 0)
+    [ None ↦ λ e. refl | Some m ↦ λ e. let less = fewer table name m e in absurd (omega arith) ] in
     cases (macro_of table name) refl
 levels_enough-names (suc a) (suc b) table (Word name) few few' =
     let cases : (found : Option Macro) → macro_of table name ≡ found → names_by_macro a table name found ≡ names_by_macro b table name found =
-        λ found. elim found as (λ o. macro_of table name ≡ o → names_by_macro a table name o ≡ names_by_macro b table name o)
-        [
-          | None ↦ λ e. refl
-          | Some m ↦ λ e. let less = fewer table name m e in
-              ap (λ n. 1 + n) (same_sum (λ k. names_replaced a (undefined table name) k) (λ k. names_replaced b (undefined table name) k)
-              (λ k. levels_enough-names a b (undefined table name) k (omega arith) (omega arith)) m.tokens)
-        ] in
+    λ found. elim found as (λ o. macro_of table name ≡ o → names_by_macro a table name o ≡ names_by_macro b table name o) [
+      | None ↦ λ e. refl
+      | Some m ↦ λ e. let less = fewer table name m e in
+          ap (λ n. 1 + n) (same_sum (λ k. names_replaced a (undefined table name) k) (λ k. names_replaced b (undefined table name) k)
+          (λ k. levels_enough-names a b (undefined table name) k (omega arith) (omega arith)) m.tokens)
+    ] in
     cases (macro_of table name) refl
 levels_enough-names zero (suc b) table kind few few' = refl
 levels_enough-names (suc a) zero table kind few few' = refl

@@ -1,10 +1,12 @@
 -- A lexeme is no directive.
 use Rattle.std.proofs.Common.{◌≡◌, ℕ, Bool, true, false, List, [], ◌∷◌, Option, Some, None, subst}
-use Rattle.std.specs.Prelude.{length, take_while, drop, find, bytes_eq, ◌==◌, if◌then◌else◌, option_map, option_and_then}
+use Rattle.std.specs.Prelude.{length, take_while, drop, find, codes, bytes_eq, ◌==◌, ◌||◌, if◌then◌else◌, option_map, option_and_then}
 use Rattle.css_base.specs.Tokens.{Kind, Word, Number, Character, Text, Punctuator}
 use Rattle.css_lex.specs.declared.lexeme_class.LexemeClass.{LexemeClass}
 use Rattle.css_lex.specs.declared.lexeme_class.LexemeClass.TheVariants as classes
-use Rattle.css_lex.specs.Values.{Candidate, Suffix, suffixes, candidates, fits, value_in, constant_in, number_in, integer_constant, one_character, characters, between_quotes, kind_of_lexeme}
+use Rattle.css_lex.specs.Source.{begins_with}
+use Rattle.css_lex.specs.LineKinds.{is_digit}
+use Rattle.css_lex.specs.Values.{is_octal_digit, is_hexadecimal_digit, suffixes, candidates, fits, value_in, constant_in, number_in, integer_constant, one_character, characters, between_quotes, kind_of_lexeme}
 use Rattle.css_lex.specs.Macros.{IsPlain}
 
 -- Where a kind is found, it isn't a directive.
@@ -43,7 +45,13 @@ number_plain decimal base is_digit_there bytes =
     (constant_plain decimal base digits (drop (length digits) bytes))
 
 integer_plain : (bytes : List ℕ) → FindsPlain (integer_constant bytes)
-integer_plain bytes = either_plain _ _ _ (number_plain _ _ _ _) (either_plain _ _ _ (number_plain _ _ _ _) (number_plain _ _ _ _))
+integer_plain bytes =
+    let hexadecimal = number_in false 16 is_hexadecimal_digit (drop 2 bytes) in
+    let octal = number_in false 8 is_octal_digit bytes in
+    let decimal = number_in true 10 is_digit bytes in
+    either_plain (begins_with (codes "0x") bytes || begins_with (codes "0X") bytes) hexadecimal (if begins_with (codes "0") bytes then octal else decimal)
+    (number_plain false 16 is_hexadecimal_digit (drop 2 bytes))
+    (either_plain (begins_with (codes "0") bytes) octal decimal (number_plain false 8 is_octal_digit bytes) (number_plain true 10 is_digit bytes))
 
 character_plain : (values : List ℕ) → FindsPlain (one_character values)
 character_plain [] = none_plain

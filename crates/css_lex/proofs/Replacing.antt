@@ -1,12 +1,12 @@
 -- What replaces a token while macros are being replaced.
-use Rattle.std.proofs.Common.{◌≡◌, ◌≢◌, ℕ, ◌+◌, Bool, true, false, cond, ◌||◌, Bor, List, [], ◌∷◌, ◌++◌, length, flat_map, sum_by, Option, Some, None, refl, ap, sym, ◌∙◌, arith, append_assoc}
+use Rattle.std.proofs.Common.{◌≡◌, ◌≢◌, ℕ, ◌+◌, Bool, true, false, cond, ◌||◌, Bor, List, [], ◌∷◌, ◌++◌, length, flat_map, sum_by, Some, None, refl, ap, sym, ◌∙◌, arith, append_assoc}
 use Rattle.std.proofs.lemmas.List.{nil_from_length, append-nil}
 use Rattle.std.proofs.lemmas.List.Sums.{sum_by-cons}
 use Rattle.std.proofs.lemmas.Slice.Eq.{bytes_eq-Decides}
 use Rattle.std.specs.Prelude.{bytes_eq}
 use Rattle.std.specs.HashSet.{contains}
 use Rattle.css_base.specs.Tokens.{Kind, Word}
-use Rattle.css_lex.specs.Macros.{Macro, Table, macro_of, undefined, replacement, replacement_names}
+use Rattle.css_lex.specs.Macros.{Table, macro_of, undefined, replacement, replacement_names}
 use Rattle.css_lex.specs.MacroTokens.{plain_kind, plain_kinds}
 use Rattle.css_lex.specs.MacroTables.{macro_value}
 use Rattle.css_lex.specs.Expansions.{is_among, is_hidden, shown, left, names_left, IsStack, IsExpansion, Hides, IsNoMacro, IsMacro}
@@ -36,7 +36,7 @@ pub macro-replaces : (table : Table) (frames : List Frame) (name : List ℕ) (d 
     → IsMacro (shown table frames) (Word name) f
 macro-replaces table frames name d f apart found named rest =
     let here : macro_of (shown table frames) name ≡ Some (macro_value d) =
-        shown-lookup table frames name ∙ ap (λ v. cond v None (macro_of table name)) apart ∙ found in
+    shown-lookup table frames name ∙ ap (λ v. cond v None (macro_of table name)) apart ∙ found in
     rw (named, rest) (record {
       there = λ none. cc;
       tokens = replacement-macro (shown table frames) name (macro_value d) here;
@@ -122,13 +122,13 @@ ended table frames f old new is before after removed =
     let stack : IsStack table (frames ++ f ∷ []) = rw before at is.stack in
     let apart : is_hidden frames f.name.now ≡ false = top-shown table frames f stack in
     let hides : (name : Bor (List ℕ)) → is_among new name ≡ is_hidden new.frames.items name.now = λ name.
-        let P : Bool → Type 0 = λ v. bytes_eq f.name.now name.now ≡ v → cond v false (v || is_hidden frames name.now) ≡ is_hidden frames name.now in
-        let here : P true = λ same. sym apart ∙ ap (λ n. is_hidden frames n) ((bytes_eq-Decides f.name.now name.now).0 same) in
-        let cases : (v : Bool) → P v = λ v. elim v as P [ true ↦ here | false ↦ λ same. refl ] in
-        removed name
-        ∙ ap (λ v. cond (bytes_eq f.name.now name.now) false v) (is.hides name ∙ ap (λ fs. is_hidden fs name.now) before ∙ hidden-snoc frames f name.now)
-        ∙ cases (bytes_eq f.name.now name.now) refl ∙ ap (λ fs. is_hidden fs name.now) (sym after) in
-    record { stack = rw after (stack-pop table frames f stack); hides = hides; }
+    let P : Bool → Type 0 = λ v. bytes_eq f.name.now name.now ≡ v → cond v false (v || is_hidden frames name.now) ≡ is_hidden frames name.now in
+    let here : P true = λ same. sym apart ∙ ap (λ n. is_hidden frames n) ((bytes_eq-Decides f.name.now name.now).0 same) in
+    let cases : (v : Bool) → P v = λ v. elim v as P [ true ↦ here | false ↦ λ same. refl ] in
+    removed name
+    ∙ ap (λ v. cond (bytes_eq f.name.now name.now) false v) (is.hides name ∙ ap (λ fs. is_hidden fs name.now) before ∙ hidden-snoc frames f name.now)
+    ∙ cases (bytes_eq f.name.now name.now) refl ∙ ap (λ fs. is_hidden fs name.now) (sym after) in
+    record { stack = rw after (stack-pop table frames f stack); hides = hides }
 
 -- A macro that is replaced with no other around it.
 pub beginning : (table : Table) (name : List ℕ) (d : Definition) (frames : List Frame) (f : Frame)

@@ -1,5 +1,5 @@
 -- Macros that are being replaced, the outermost first, and what is left of the replacement.
-use Rattle.std.specs.Prelude.{◌≡◌, ◌≢◌, ℕ, ◌+◌, ◌-◌, ◌*◌, ◌<◌, ◌⊎◌, Bool, ◌||◌, List, [], ◌∷◌, ◌++◌, length, map, flat_map, sum_by, bytes_eq, Option, None}
+use Rattle.std.specs.Prelude.{◌≡◌, ◌≢◌, ℕ, ◌+◌, ◌-◌, ◌*◌, Bool, ◌||◌, List, [], ◌∷◌, ◌++◌, length, map, flat_map, sum_by, bytes_eq, None}
 use Rattle.std.specs.Borrow.{Bor}
 use Rattle.std.specs.List.{list_any}
 use Rattle.std.specs.HashSet.{contains}

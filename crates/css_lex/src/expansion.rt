@@ -104,16 +104,16 @@ impl<'a> Expansion<'a> {
         ensures tokens { OnOk result
             (lexemes tokens.new.items ++ placed span.now (left (table_of macros.now) self.new.frames.items)
             ≡ lexemes tokens.old.items ++ placed span.now
-                (replacement (shown (table_of macros.now) self.old.frames.items) (plain_kind token.now)
-                ++ left (table_of macros.now) self.old.frames.items)) }
+            (replacement (shown (table_of macros.now) self.old.frames.items) (plain_kind token.now)
+            ++ left (table_of macros.now) self.old.frames.items)) }
         ensures token_count { OnOk result
             (counts.new.tokens + length (left (table_of macros.now) self.new.frames.items)
             ≡ counts.old.tokens + (length (replacement (shown (table_of macros.now) self.old.frames.items) (plain_kind token.now))
-                + length (left (table_of macros.now) self.old.frames.items))) }
+            + length (left (table_of macros.now) self.old.frames.items))) }
         ensures name_count { OnOk result
             (counts.new.names + names_left (table_of macros.now) self.new.frames.items
             ≡ counts.old.names + (replacement_names (shown (table_of macros.now) self.old.frames.items) (plain_kind token.now)
-                + names_left (table_of macros.now) self.old.frames.items)) }
+            + names_left (table_of macros.now) self.old.frames.items)) }
         ensures nearer { OnOk result (steps_left counts.new self.new < steps_left counts.old self.old) }
         ensures too_many { IsErrOf result ExpansionFault.TooMany
             → (1000000 < counts.old.tokens + length (replacement (shown (table_of macros.now) self.old.frames.items) (plain_kind token.now)))
@@ -198,3 +198,6 @@ impl Macros {
         Ok(())
     }
 }
+
+#[cfg(test)]
+mod tests;

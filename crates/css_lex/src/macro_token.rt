@@ -67,10 +67,8 @@ impl MacroToken {
     {
         match (self, other) {
             (MacroToken::Word(a), MacroToken::Word(b)) => a.as_slice() == b.as_slice(),
-            (
-                MacroToken::Number { kind: s, value: a },
-                MacroToken::Number { kind: t, value: b },
-            ) => *s == *t && *a == *b,
+            (MacroToken::Number { kind: s, value: a }, MacroToken::Number { kind: t, value: b }) =>
+                *s == *t && *a == *b,
             (MacroToken::Character(a), MacroToken::Character(b)) => *a == *b,
             (MacroToken::Text(a), MacroToken::Text(b)) => a.as_slice() == b.as_slice(),
             (MacroToken::Punctuator(a), MacroToken::Punctuator(b)) => a.as_slice() == b.as_slice(),

@@ -1,4 +1,4 @@
-use Rattle.std.proofs.Common.{◌≡◌, ◌++◌, ◌∙◌, ap, length, length-append, arith}
+use Rattle.std.proofs.Common.{◌++◌, ◌∙◌, ap, length, length-append, arith}
 use Rattle.css_base.specs.Tokens.{lexemes}
 use Rattle.css_lex.specs.Expansions.{placed, left, names_left}
 use Rattle.css_lex.specs.MacroTokens.{plain_kind}
@@ -22,7 +22,7 @@ pub returns-clause-token_count : goal.returns-clause-token_count
 returns-clause-token_count c =
     let table = table_of c.args.macros.now in
     let all = ap (λ fs. left table fs) c.in_ok-enter.ensures.frames
-        ∙ entering table (plain_kind c.args.token.now) c.args.self.now.frames.items c.in-Some.frame c.in-Some.ensures in
+    ∙ entering table (plain_kind c.args.token.now) c.args.self.now.frames.items c.in-Some.frame c.in-Some.ensures in
     let counted = simp length-append at (ap length all) in
     let same = c.in_ok-count_name.ensures.tokens in
     omega arith

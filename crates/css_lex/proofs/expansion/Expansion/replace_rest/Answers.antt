@@ -1,4 +1,4 @@
-use Rattle.std.proofs.Common.{◌≡◌, ◌++◌, ◌+◌, ◌∙◌, ap, sym, refl, length, length-append, arith, rules, ◌<◌, inl, inr}
+use Rattle.std.proofs.Common.{◌++◌, ◌+◌, ◌∙◌, ap, sym, refl, length, length-append, arith, rules, ◌<◌, inl, inr}
 use Rattle.std.specs.Prelude.{◌⊎◌, IsErrOf}
 use Rattle.css_base.specs.Tokens.{lexemes}
 use Rattle.css_lex.specs.declared.counts.ExpansionFault.TheVariants.{TooMany}
@@ -25,11 +25,11 @@ loop-innermost-preserved-in-Continue-branch-2 c =
     let g : Frame = record { name = c.in-Some.innermost.name; rest = c.in-Some-split_first.rest } in
     let token = c.in-Some-split_first.token.now in
     let tokens = ap (λ fs. left table fs) c.in-Some.ensures.items
-        ∙ advancing table frames f g token refl c.in-Some-split_first.ensures.cases.0
-        ∙ ap (λ fs. replacement (shown table fs) (plain_kind token) ++ left table fs) (sym c.in_ok-push.ensures.items) in
+    ∙ advancing table frames f g token refl c.in-Some-split_first.ensures.cases.0
+    ∙ ap (λ fs. replacement (shown table fs) (plain_kind token) ++ left table fs) (sym c.in_ok-push.ensures.items) in
     let names = ap (λ fs. names_left table fs) c.in-Some.ensures.items
-        ∙ advancing-names table frames f g token refl c.in-Some-split_first.ensures.cases.0
-        ∙ ap (λ fs. replacement_names (shown table fs) (plain_kind token) + names_left table fs) (sym c.in_ok-push.ensures.items) in
+    ∙ advancing-names table frames f g token refl c.in-Some-split_first.ensures.cases.0
+    ∙ ap (λ fs. replacement_names (shown table fs) (plain_kind token) + names_left table fs) (sym c.in_ok-push.ensures.items) in
     let counted = simp length-append at (ap length tokens) in
     let done = c.in_ok-replace.ensures in
     record {
@@ -48,18 +48,18 @@ returns-in_err-replace-clause-too_many c =
     let token = c.in-Some-split_first.token.now in
     let before = c.args.self.now.frames.items in
     let tokens = ap (λ fs. left table fs) c.in-Some.ensures.items
-        ∙ advancing table frames f g token refl c.in-Some-split_first.ensures.cases.0
-        ∙ ap (λ fs. replacement (shown table fs) (plain_kind token) ++ left table fs) (sym c.in_ok-push.ensures.items) in
+    ∙ advancing table frames f g token refl c.in-Some-split_first.ensures.cases.0
+    ∙ ap (λ fs. replacement (shown table fs) (plain_kind token) ++ left table fs) (sym c.in_ok-push.ensures.items) in
     let names = ap (λ fs. names_left table fs) c.in-Some.ensures.items
-        ∙ advancing-names table frames f g token refl c.in-Some-split_first.ensures.cases.0
-        ∙ ap (λ fs. replacement_names (shown table fs) (plain_kind token) + names_left table fs) (sym c.in_ok-push.ensures.items) in
+    ∙ advancing-names table frames f g token refl c.in-Some-split_first.ensures.cases.0
+    ∙ ap (λ fs. replacement_names (shown table fs) (plain_kind token) + names_left table fs) (sym c.in_ok-push.ensures.items) in
     let counted = simp length-append at (ap length tokens) in
     let Passed : Type 0 = (1000000 < c.args.counts.now.tokens + length (left table before)) ⊎ (1000000 < c.args.counts.now.names + names_left table before) in
     let passed : IsErrOf c.replace.result TooMany → Passed = λ h.
-        elim (c.replace.ensures.too_many h) [
-          | inl over ↦ inl (omega (arith, over, c.loop-innermost.invariant.token_count))
-          | inr over ↦ inr (omega (arith, over, c.loop-innermost.invariant.name_count))
-        ] in
+    elim (c.replace.ensures.too_many h) [
+      | inl over ↦ inl (omega (arith, over, c.loop-innermost.invariant.token_count))
+      | inr over ↦ inr (omega (arith, over, c.loop-innermost.invariant.name_count))
+    ] in
     search (rules, passed)
 
 pub loop-innermost-preserved : goal.loop-innermost-preserved

@@ -1,4 +1,4 @@
-use Rattle.std.proofs.Common.{◌≡◌, ◌++◌, ◌+◌, ◌∷◌, [], ◌∙◌, ap, sym, length, arith, rules, ◌<◌, inl, inr}
+use Rattle.std.proofs.Common.{◌++◌, ◌+◌, ◌∷◌, [], ◌∙◌, ap, sym, length, arith, rules, ◌<◌, inl, inr}
 use Rattle.std.specs.Prelude.{◌⊎◌, IsErrOf}
 use Rattle.css_base.specs.Tokens.{kind_of, lexemes}
 use Rattle.css_lex.specs.Macros.{replacement, replacement_names}
@@ -36,7 +36,7 @@ returns-clause-name_count c =
     let found = rw c.as_slice.ensures at (sym c.in-Some.ensures) in
     let one = c.in_ok-enter.ensures.frames ∙ ap (λ fs. fs ++ f ∷ []) c.new.ensures.items in
     let names = beginning-names table c.in-Word.name c.in-Some.found.now c.enter.new.self.frames.items f found c.as_slice-2.ensures c.as_slice-3.ensures.value one
-        ∙ ap (λ k. replacement_names table (kind_of k)) (sym c.in-Word.is) in
+    ∙ ap (λ k. replacement_names table (kind_of k)) (sym c.in-Word.is) in
     omega (arith, c.in_ok-replace_rest.ensures.name_count, c.in_ok-count_name.ensures.names)
 
 pub returns-in_err-replace_rest-clause-too_many : goal.returns-in_err-replace_rest-clause-too_many
@@ -48,12 +48,12 @@ returns-in_err-replace_rest-clause-too_many c =
     let tokens = beginning table c.in-Word.name c.in-Some.found.now c.enter.new.self.frames.items f found c.as_slice-2.ensures c.as_slice-3.ensures.value one in
     let counted = ap length (tokens ∙ ap (λ k. replacement table (kind_of k)) (sym c.in-Word.is)) in
     let names = beginning-names table c.in-Word.name c.in-Some.found.now c.enter.new.self.frames.items f found c.as_slice-2.ensures c.as_slice-3.ensures.value one
-        ∙ ap (λ k. replacement_names table (kind_of k)) (sym c.in-Word.is) in
+    ∙ ap (λ k. replacement_names table (kind_of k)) (sym c.in-Word.is) in
     let Passed : Type 0 = (1000000 < c.args.counts.now.tokens + length (replacement table (kind_of c.args.kind)))
-        ⊎ (1000000 < c.args.counts.now.names + replacement_names table (kind_of c.args.kind)) in
+    ⊎ (1000000 < c.args.counts.now.names + replacement_names table (kind_of c.args.kind)) in
     let passed : IsErrOf c.replace_rest.result TooMany → Passed = λ h.
-        elim (c.replace_rest.ensures.too_many h) [
-          | inl over ↦ inl (omega (arith, over, c.in_ok-count_name.ensures.tokens))
-          | inr over ↦ inr (omega (arith, over, c.in_ok-count_name.ensures.names))
-        ] in
+    elim (c.replace_rest.ensures.too_many h) [
+      | inl over ↦ inl (omega (arith, over, c.in_ok-count_name.ensures.tokens))
+      | inr over ↦ inr (omega (arith, over, c.in_ok-count_name.ensures.names))
+    ] in
     search (rules, passed)
