@@ -21,3 +21,8 @@ pub mod Escapes
 pub mod MacroTables
 pub mod Spelled
 pub mod WordsRead
+pub mod Levels
+pub mod Frames
+pub mod Replacing
+pub mod PlainKinds
+pub mod Definitions

@@ -1,5 +1,5 @@
 -- Entries of a map, and the table that they stand for.
-use Rattle.std.proofs.Common.{◌≡◌, ℕ, Bool, true, false, cond, List, [], ◌∷◌, length, map, Option, Some, None, Bor, refl, ap, sym, ◌∙◌, suc, ◌≢◌, ◌&&◌}
+use Rattle.std.proofs.Common.{◌≡◌, ℕ, Bool, true, false, cond, List, [], ◌∷◌, length, map, Option, Some, None, Bor, refl, ap, suc, ◌≢◌, ◌&&◌}
 use Rattle.std.specs.Prelude.{bytes_eq, option_map, option_copied, if◌then◌else◌}
 use Rattle.std.specs.Map.{lookup, set_value}
 use Rattle.indexmap.specs.IndexMap.{insert_entry}

@@ -9,6 +9,7 @@ pub mod Values
 pub mod Macros
 pub mod MacroTokens
 pub mod MacroTables
+pub mod Expansions
 pub mod Reading
 pub mod Costs
 pub mod Spelling

@@ -1,5 +1,5 @@
 -- Tokens of macros as plain data.
-use Rattle.std.specs.Prelude.{ℕ, List, map, Option, option_map}
+use Rattle.std.specs.Prelude.{List, map}
 use Rattle.css_base.specs.Tokens.{Kind, Word, Number, Character, Text, Punctuator}
 use Rattle.css_lex.specs.declared.macro_token.MacroToken.{MacroToken}
 use Rattle.css_lex.specs.declared.macro_token.MacroToken.TheVariants as code

@@ -1,5 +1,5 @@
 -- Macros without parameters (C99 6.10.3): the table of their names, and replacement (C99 6.10.3.4).
-use Rattle.std.specs.Prelude.{ℕ, zero, suc, ◌+◌, Bool, true, false, ◌&&◌, ◌||◌, List, [], ◌∷◌, length, flat_map, sum_by, codes, bytes_eq, ◌==◌, Option, Some, None}
+use Rattle.std.specs.Prelude.{ℕ, suc, ◌+◌, Bool, true, false, ◌&&◌, ◌||◌, List, [], ◌∷◌, length, flat_map, sum_by, codes, bytes_eq, ◌==◌, Option, Some, None}
 use Rattle.std.specs.Option.{option_flatten}
 use Rattle.std.specs.Map.{lookup, set_value}
 use Rattle.indexmap.specs.IndexMap.{insert_entry}

@@ -1,6 +1,7 @@
 //! How many tokens a text has, and how many macro names are replaced in it.
 ghost use Rattle.std.specs.Prelude.{◌≡◌, ◌+◌, ◌≤◌, OnOk, IsErrOf};
 
+use css_base::NoMemory;
 use std::alloc::{AllocError, AllocFailed};
 
 /// The most tokens of a text, and the most names that are replaced in it.
@@ -33,6 +34,17 @@ impl<T: Drop> From<AllocFailed<T>> for ExpansionFault {
     ghost from_gives = { λ _ fault. fault ≡ NoMemory };
 
     fn from(_error: AllocFailed<T>) -> ExpansionFault {
+        ExpansionFault::NoMemory
+    }
+}
+
+impl From<NoMemory> for ExpansionFault {
+    ghost use Rattle.std.specs.Prelude.{◌≡◌};
+    ghost use Rattle.css_lex.specs.declared.counts.ExpansionFault.TheVariants.{NoMemory};
+
+    ghost from_gives = { λ _ fault. fault ≡ NoMemory };
+
+    fn from(_error: NoMemory) -> ExpansionFault {
         ExpansionFault::NoMemory
     }
 }

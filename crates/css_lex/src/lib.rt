@@ -6,9 +6,11 @@ mod characters;
 mod comments;
 mod counts;
 mod erasure;
+mod expansion;
 mod laws;
 mod lexeme_class;
 mod line_kind;
+mod macro_laws;
 mod macro_token;
 mod macros;
 mod numbered;
@@ -20,11 +22,17 @@ mod words;
 pub use breach::Breach;
 pub use counts::{Counts, ExpansionFault};
 pub use erasure::erase;
+pub use expansion::Span;
 pub use laws::{
-    erasing_keeps_newlines, erasing_twice_is_once, lines_have_pieces, pieces_are_unique,
+    erasing_keeps_newlines, erasing_keeps_newlines, erasing_twice_is_once, erasing_twice_is_once,
+    lines_have_pieces, pieces_are_unique,
 };
 pub use lexeme_class::LexemeClass;
 pub use line_kind::LineKind;
+pub use macro_laws::{
+    defining_sets_one_name, levels_are_enough, other_names_stay, tokens_replace_a_macro,
+    undefining_takes_one_name,
+};
 pub use macro_token::MacroToken;
 pub use macros::{Definition, Macros};
 pub use pieces::Shape;

@@ -1,6 +1,6 @@
-use Rattle.std.proofs.Common.{arith, sym}
+use Rattle.std.proofs.Common.{sym}
 use Rattle.std.proofs.lemmas.List.{length-map}
-use Rattle.css_lex.specs.MacroTokens.{plain_kind, plain_kinds}
+use Rattle.css_lex.specs.MacroTokens.{plain_kinds}
 use Rattle.css_lex.proofs.MacroTables.{same_kinds-lengths}
 use Rattle.css_lex.proofs.macros.are_same.Goals as goal
 

@@ -1,6 +1,5 @@
-use Rattle.std.proofs.Common.{◌≡◌, ap, ◌∙◌, Option, Some}
+use Rattle.std.proofs.Common.{ap, ◌∙◌}
 use Rattle.std.specs.Prelude.{option_map}
-use Rattle.css_lex.specs.Macros.{Macro}
 use Rattle.css_lex.specs.MacroTables.{macro_value}
 use Rattle.css_lex.proofs.MacroTables.{mapped, insert-mapped}
 use Rattle.css_lex.proofs.macros.Macros.define.Goals as goal
