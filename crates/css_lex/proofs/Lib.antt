@@ -26,3 +26,5 @@ pub mod Frames
 pub mod Replacing
 pub mod PlainKinds
 pub mod Definitions
+pub mod Firsts
+pub mod CommentBytes

@@ -15,4 +15,7 @@ pub mod Costs
 pub mod Spelling
 pub mod Refusals
 pub mod Words
+pub mod Rising
+pub mod Found
+pub mod CommentEnd
 pub mod Lexing

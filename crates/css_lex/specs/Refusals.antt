@@ -41,6 +41,12 @@ abbrev pub unended_comments : (text : List ℕ) → List SourceByte → List Bre
 unended_comments text bytes =
     map (λ b. breach names.BadToken b.place) (filter (λ b. (b.byte == 32) && begins_unended text b.place) bytes)
 
+-- The rule that one byte breaks.
+abbrev pub byte_breach : (text : List ℕ) → SourceByte → Option Breach
+byte_breach text c =
+    if is_bad_byte c.byte then Some (breach names.BadByte c.place)
+    else (if (c.byte == 32) && begins_unended text c.place then Some (breach names.BadToken c.place) else None)
+
 abbrev pub is_stray : Shape → Bool
 is_stray shapes.Stray = true
 is_stray _ = false

@@ -1,6 +1,7 @@
 //! The lexer: translation phases 1 to 4 and 6 of C99 5.1.1.2, and the text that is left without its directives.
 #![tactic(auto)]
 
+mod bad_bytes;
 mod breach;
 mod characters;
 mod comments;
@@ -24,8 +25,7 @@ pub use counts::{Counts, ExpansionFault};
 pub use erasure::erase;
 pub use expansion::Span;
 pub use laws::{
-    erasing_keeps_newlines, erasing_keeps_newlines, erasing_twice_is_once, erasing_twice_is_once,
-    lines_have_pieces, pieces_are_unique,
+    erasing_keeps_newlines, erasing_twice_is_once, lines_have_pieces, pieces_are_unique,
 };
 pub use lexeme_class::LexemeClass;
 pub use line_kind::LineKind;
