@@ -28,3 +28,4 @@ pub mod PlainKinds
 pub mod Definitions
 pub mod Firsts
 pub mod CommentBytes
+pub mod WordByWord

@@ -17,5 +17,6 @@ pub mod Refusals
 pub mod Words
 pub mod Rising
 pub mod Found
+pub mod Expanded
 pub mod CommentEnd
 pub mod Lexing

@@ -7,6 +7,7 @@ mod characters;
 mod comments;
 mod counts;
 mod erasure;
+mod expanding;
 mod expansion;
 mod laws;
 mod lexeme_class;
