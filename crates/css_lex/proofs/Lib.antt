@@ -29,3 +29,6 @@ pub mod Definitions
 pub mod Firsts
 pub mod CommentBytes
 pub mod WordByWord
+pub mod Late
+pub mod LineBreaches
+pub mod TextLines

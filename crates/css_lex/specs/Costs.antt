@@ -5,7 +5,7 @@ use Rattle.css_lex.specs.declared.line_kind.LineKind.TheVariants as kinds
 use Rattle.css_lex.specs.Lines.{kind_of_line}
 use Rattle.css_lex.specs.Lexemes.{Piece}
 use Rattle.css_lex.specs.Macros.{Table, replacement, replacement_names, predefined_macros}
-use Rattle.css_lex.specs.Reading.{ReadLine, solid, read_pieces, kind_of_piece, place_of, first_place, table_behind}
+use Rattle.css_lex.specs.Reading.{ReadLine, solid, read_by, kind_of_piece, place_of, first_place, table_behind}
 
 -- How many tokens a place of the text gives, before strings are joined, and how many names are replaced there.
 pub record Cost : Type 0 where
@@ -20,15 +20,15 @@ piece_costs table p =
       | Some kind ↦ record { place = place_of p; tokens = length (replacement table kind); names = replacement_names table kind } ∷ []
     ]
 
--- A directive is one token, and each of its words is one.
-abbrev pub costs_by : LineKind → Table → ReadLine → List Cost
-costs_by kinds.Text table r = flat_map (piece_costs table) (read_pieces r)
-costs_by kinds.Css table r =
-    record { place = first_place (solid r.pieces); tokens = 1; names = 0 } ∷ flat_map (piece_costs table) (read_pieces r)
-costs_by _ table r = []
+-- The costs of a line's solid pieces. A directive is one token, and each of its words is one.
+abbrev pub costs_by : LineKind → Table → List Piece → List Cost
+costs_by kinds.Text table pieces = flat_map (piece_costs table) (read_by kinds.Text pieces)
+costs_by kinds.Css table pieces =
+    record { place = first_place pieces; tokens = 1; names = 0 } ∷ flat_map (piece_costs table) (read_by kinds.Css pieces)
+costs_by _ table pieces = []
 
 abbrev pub costs : Table → ReadLine → List Cost
-costs table r = costs_by (kind_of_line r.line) table r
+costs table r = costs_by (kind_of_line r.line) table (solid r.pieces)
 
 -- What stands before a line: the macros that are defined there, how many tokens there are, before strings are joined, and
 -- how many names were replaced.

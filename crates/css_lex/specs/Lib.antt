@@ -18,5 +18,6 @@ pub mod Words
 pub mod Rising
 pub mod Found
 pub mod Expanded
+pub mod LexState
 pub mod CommentEnd
 pub mod Lexing

@@ -6,7 +6,7 @@ use Rattle.css_lex.specs.declared.line_kind.LineKind.TheVariants as kinds
 use Rattle.css_lex.specs.Lines.{kind_of_line, newlines}
 use Rattle.css_lex.specs.Lexemes.{Piece}
 use Rattle.css_lex.specs.Macros.{Table, replacement}
-use Rattle.css_lex.specs.Reading.{ReadLine, solid, read_pieces, kind_of_piece, place_of, end_of, first_place, last_end}
+use Rattle.css_lex.specs.Reading.{ReadLine, solid, read_by, kind_of_piece, place_of, end_of, first_place, last_end}
 use Rattle.css_lex.specs.Costs.{at_start, over_lines}
 
 -- The line in which a place of the text lies, counted from 1.
@@ -39,14 +39,14 @@ abbrev pub directive : (text : List ℕ) (line words : List Piece) → Table →
 directive text line words table =
     At (Directive (in_order (joined (flat_map (tokens_of text table) words)))) (line_at text (first_place line)) (first_place line) (last_end line)
 
--- The tokens of a line.
-abbrev pub tokens_by : LineKind → (text : List ℕ) → Table → ReadLine → List Lexeme
-tokens_by kinds.Text text table r = flat_map (tokens_of text table) (read_pieces r)
-tokens_by kinds.Css text table r = directive text (solid r.pieces) (read_pieces r) table ∷ []
-tokens_by _ text table r = []
+-- The tokens of a line's solid pieces.
+abbrev pub tokens_by : LineKind → (text : List ℕ) → Table → List Piece → List Lexeme
+tokens_by kinds.Text text table pieces = flat_map (tokens_of text table) (read_by kinds.Text pieces)
+tokens_by kinds.Css text table pieces = directive text pieces (read_by kinds.Css pieces) table ∷ []
+tokens_by _ text table pieces = []
 
 abbrev pub tokens_of_line : (text : List ℕ) → Table → ReadLine → List Lexeme
-tokens_of_line text table r = tokens_by (kind_of_line r.line) text table r
+tokens_of_line text table r = tokens_by (kind_of_line r.line) text table (solid r.pieces)
 
 -- The tokens of a text that is read as these lines.
 abbrev pub tokens_of_lines : (text : List ℕ) → List ReadLine → List Lexeme

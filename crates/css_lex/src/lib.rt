@@ -11,6 +11,7 @@ mod expanding;
 mod expansion;
 mod laws;
 mod lexeme_class;
+mod line;
 mod line_kind;
 mod macro_laws;
 mod macro_token;

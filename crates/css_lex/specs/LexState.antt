@@ -1,0 +1,25 @@
+-- What a line does, by what is kept while a text is read.
+use Rattle.std.specs.Prelude.{◌≡◌, ℕ, List, [], ◌++◌}
+use Rattle.css_base.specs.Tokens.{Lexeme, lexemes}
+use Rattle.css_lex.specs.declared.line.Brought.{Brought}
+use Rattle.css_lex.specs.declared.source.SourceByte.{SourceByte}
+use Rattle.css_lex.specs.Lines.{LogicalLine}
+use Rattle.css_lex.specs.Longest.{pieces_of}
+use Rattle.css_lex.specs.MacroTables.{table_of}
+use Rattle.css_lex.specs.Reading.{ReadLine}
+use Rattle.css_lex.specs.Costs.{State, state_behind}
+use Rattle.css_lex.specs.Spelling.{tokens_of_line}
+use Rattle.css_lex.specs.Refusals.{line_breaches}
+
+abbrev pub state_of : Brought → State
+state_of brought = record { table = table_of brought.macros; tokens = brought.counts.tokens; names = brought.counts.names }
+
+-- A line that shows these bytes.
+abbrev pub line_of : List SourceByte → ReadLine
+line_of bytes = record { line = record { bytes = bytes; from = 0; to = 0 }; pieces = pieces_of bytes }
+
+-- The line breaks no rule and is read.
+pub record IsLexed (text : List ℕ) (line : List SourceByte) (old new : Brought) : Type 0 where
+  pub unbroken : line_breaches text (state_of old) (line_of line) ≡ []
+  pub state_is : state_of new ≡ state_behind (state_of old) (line_of line)
+  pub tokens_are : lexemes new.tokens.items ≡ lexemes old.tokens.items ++ tokens_of_line text (table_of old.macros) (line_of line)
