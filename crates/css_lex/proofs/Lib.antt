@@ -32,3 +32,4 @@ pub mod WordByWord
 pub mod Late
 pub mod LineBreaches
 pub mod TextLines
+pub mod Strings

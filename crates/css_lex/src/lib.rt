@@ -9,6 +9,7 @@ mod counts;
 mod erasure;
 mod expanding;
 mod expansion;
+mod joining;
 mod laws;
 mod lexeme_class;
 mod line;
