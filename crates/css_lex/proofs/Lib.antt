@@ -33,3 +33,4 @@ pub mod Late
 pub mod LineBreaches
 pub mod TextLines
 pub mod Strings
+pub mod Hashes

@@ -17,6 +17,7 @@ pub mod Refusals
 pub mod Words
 pub mod Rising
 pub mod Found
+pub mod HashLines
 pub mod Joining
 pub mod Expanded
 pub mod LexState

@@ -9,6 +9,7 @@ mod counts;
 mod erasure;
 mod expanding;
 mod expansion;
+mod hash_line;
 mod joining;
 mod laws;
 mod lexeme_class;
