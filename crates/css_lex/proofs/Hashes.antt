@@ -22,7 +22,7 @@ use Rattle.css_lex.proofs.LineBreaches.{pieces_in}
 abbrev pub blanks : List SourceByte → ℕ
 blanks line = prefix_len is_blank (bytes_of line)
 
-blank_piece : (c : SourceByte) (line : List SourceByte) → is_blank c.byte ≡ true
+pub blank_piece : (c : SourceByte) (line : List SourceByte) → is_blank c.byte ≡ true
     → pieces_of (c ∷ line) ≡ record { shape = shapes.Blank; bytes = c ∷ [] } ∷ pieces_of line
 blank_piece c line blank =
     let shape : shape_at (bytes_of (c ∷ line)) ≡ shapes.Blank = cond-true (is_blank c.byte) _ _ blank in
@@ -30,7 +30,7 @@ blank_piece c line blank =
     ap (λ s. record { shape = s; bytes = take (size_at (bytes_of (c ∷ line))) (c ∷ line) } ∷ pieces_from (size_at (bytes_of (c ∷ line)) - 1) line) shape
     ∙ ap (λ n. record { shape = shapes.Blank; bytes = take n (c ∷ line) } ∷ pieces_from (n - 1) line) size
 
-one_more : (n : ℕ) → 1 + n ≡ suc n
+pub one_more : (n : ℕ) → 1 + n ≡ suc n
 one_more n = omega arith
 
 -- White space in front has no solid piece.

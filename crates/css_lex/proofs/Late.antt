@@ -69,7 +69,7 @@ cost_some : (table : Table) (p : Piece) (pieces : List Piece) (kind : Kind) → 
     → pieces_costs table (p ∷ pieces) ≡ cost_of table p kind ∷ pieces_costs table pieces
 cost_some table p pieces kind is = ap (λ o. costs_from_kind table p o ++ pieces_costs table pieces) is
 
-by_kind : {A : Type 0} (p : Piece) → (kind_of_piece p ≡ None → A) → ((kind : Kind) → kind_of_piece p ≡ Some kind → A) → A
+pub by_kind : {A : Type 0} (p : Piece) → (kind_of_piece p ≡ None → A) → ((kind : Kind) → kind_of_piece p ≡ Some kind → A) → A
 by_kind {A} p none some = by (kind_of_piece p) refl
   where
     by : (o : Option Kind) → kind_of_piece p ≡ o → A
@@ -139,7 +139,7 @@ constant_none : (p : Piece) (pieces : List Piece) → bad p ≡ false → bad_co
 constant_none p pieces is = ap (map (λ (q : Piece). breach statics.BadConstant (place_of q))) (cond-false (bad p) (p ∷ filter bad pieces) (filter bad pieces) is)
 
 -- Other breaches between the stray pieces and the bad constants.
-abbrev among : (pieces : List Piece) → List Breach → List Breach
+abbrev pub among : (pieces : List Piece) → List Breach → List Breach
 among pieces others = stray_pieces pieces ++ (others ++ bad_constants pieces)
 
 own_is_stray : (p : Piece) → is_stray p.shape ≡ true → own_breach p ≡ breach statics.BadToken (place_of p)
@@ -178,26 +178,26 @@ among_on p pieces others kind is =
     ap (λ s. s ++ (others ++ bad_constants (p ∷ pieces))) (stray_none p pieces (no_stray p kind is))
     ∙ ap (λ c. stray_pieces pieces ++ (others ++ c)) (constant_none p pieces (and_right (is_lexeme p.shape) (is_none (kind_of_piece p)) (ap is_none is)))
 
-word_some : (text : List ℕ) (p : Piece) (pieces : List Piece) (kind : Kind) → kind_of_piece p ≡ Some kind
+pub word_some : (text : List ℕ) (p : Piece) (pieces : List Piece) (kind : Kind) → kind_of_piece p ≡ Some kind
     → words_of text (p ∷ pieces) ≡ At kind (line_at text (place_of p)) (place_of p) (end_of p) ∷ words_of text pieces
 word_some text p pieces kind is = rw (words_of, is) refl
 
-word_none : (text : List ℕ) (p : Piece) (pieces : List Piece) → kind_of_piece p ≡ None → words_of text (p ∷ pieces) ≡ []
+pub word_none : (text : List ℕ) (p : Piece) (pieces : List Piece) → kind_of_piece p ≡ None → words_of text (p ∷ pieces) ≡ []
 word_none text p pieces is = rw (words_of, is) refl
 
-fails_on : (p : Piece) (pieces : List Piece) (kind : Kind) → kind_of_piece p ≡ Some kind → failure_of (p ∷ pieces) ≡ failure_of pieces
+pub fails_on : (p : Piece) (pieces : List Piece) (kind : Kind) → kind_of_piece p ≡ Some kind → failure_of (p ∷ pieces) ≡ failure_of pieces
 fails_on p pieces kind is = rw (failure_of, is) refl
 
-fails_here : (p : Piece) (pieces : List Piece) → kind_of_piece p ≡ None → failure_of (p ∷ pieces) ≡ Some (own_breach p)
+pub fails_here : (p : Piece) (pieces : List Piece) → kind_of_piece p ≡ None → failure_of (p ∷ pieces) ≡ Some (own_breach p)
 fails_here p pieces is = rw (failure_of, is) refl
 
 abbrev word_from : (text : List ℕ) → Piece → Kind → Lexeme
 word_from text p kind = At kind (line_at text (place_of p)) (place_of p) (end_of p)
 
-empty_cons : {A : Type 0} (a : A) (list : List A) → a ∷ list ≡ [] → ⊥
+pub empty_cons : {A : Type 0} (a : A) (list : List A) → a ∷ list ≡ [] → ⊥
 empty_cons a list e = cc
 
-first_of : {A : Type 0} (a b : A) (these those : List A) → a ∷ these ≡ b ∷ those → a ≡ b
+pub first_of : {A : Type 0} (a b : A) (these those : List A) → a ∷ these ≡ b ∷ those → a ≡ b
 first_of a b these those e = cc
 
 -- The counts behind a piece that stands for something.

@@ -34,3 +34,8 @@ pub mod LineBreaches
 pub mod TextLines
 pub mod Strings
 pub mod Hashes
+pub mod DefinitionWords
+pub mod NamedWords
+pub mod UndefLines
+pub mod DefineLines
+pub mod LineEnds

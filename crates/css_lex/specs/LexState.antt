@@ -1,7 +1,9 @@
 -- What a line does, by what is kept while a text is read.
-use Rattle.std.specs.Prelude.{◌≡◌, ℕ, List, [], ◌++◌}
+use Rattle.std.specs.Prelude.{◌≡◌, ℕ, Bool, true, false, List, [], ◌++◌}
 use Rattle.css_base.specs.Tokens.{Lexeme, lexemes}
 use Rattle.css_lex.specs.declared.line.Brought.{Brought}
+use Rattle.css_lex.specs.declared.line_kind.LineKind.{LineKind}
+use Rattle.css_lex.specs.declared.line_kind.LineKind.TheVariants as kinds
 use Rattle.css_lex.specs.declared.source.SourceByte.{SourceByte}
 use Rattle.css_lex.specs.Lines.{LogicalLine}
 use Rattle.css_lex.specs.Longest.{pieces_of}
@@ -10,6 +12,13 @@ use Rattle.css_lex.specs.Reading.{ReadLine}
 use Rattle.css_lex.specs.Costs.{State, state_behind}
 use Rattle.css_lex.specs.Spelling.{tokens_of_line}
 use Rattle.css_lex.specs.Refusals.{line_breaches}
+
+-- The kinds of lines that are passed over.
+abbrev pub passes : LineKind → Bool
+passes kinds.Null = true
+passes kinds.Include = true
+passes kinds.Pragma = true
+passes _ = false
 
 abbrev pub state_of : Brought → State
 state_of brought = record { table = table_of brought.macros; tokens = brought.counts.tokens; names = brought.counts.names }

@@ -6,6 +6,8 @@ mod breach;
 mod characters;
 mod comments;
 mod counts;
+mod definition;
+mod directive;
 mod erasure;
 mod expanding;
 mod expansion;

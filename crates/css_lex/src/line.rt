@@ -1,14 +1,16 @@
 //! The lines of a text, one at a time.
-ghost use Rattle.std.specs.Prelude.{◌≡◌, ◌<◌, ◌≤◌, ◌++◌, [], length, OnOk, IsErrOf};
+ghost use Rattle.std.specs.Prelude.{◌≡◌, true, ◌<◌, ◌≤◌, ◌++◌, [], length, OnOk, IsErrOf};
 ghost use Rattle.css_lex.specs.Rising.{AreBetween};
 ghost use Rattle.css_lex.specs.LineKinds.{line_kind};
 ghost use Rattle.css_lex.specs.Refusals.{line_breaches, bad_bytes, unended_comments};
 ghost use Rattle.css_lex.specs.Found.{IsFirst, IsFound, least_of};
-ghost use Rattle.css_lex.specs.LexState.{state_of, line_of, IsLexed};
+ghost use Rattle.css_lex.specs.LexState.{state_of, line_of, IsLexed, passes};
 
 use crate::breach::{Breach, LexFault};
 use crate::counts::Counts;
+use crate::definition::{is_function_like, macro_tokens, sole_name, split_name};
 use crate::expanding::expand;
+use crate::hash_line::malformed;
 use crate::line_kind::LineKind;
 use crate::macros::Macros;
 use crate::numbered::NumberedText;
@@ -103,5 +105,91 @@ impl Brought {
             return Err(first_fault(early, fault));
         }
         settled(least(early, words.failure))
+    }
+    /// A `#` line that is passed over, or `#` alone.
+    fn pass_over(
+        &mut self,
+        numbered: &NumberedText,
+        line: &LineBytes,
+        early: Option<Breach>,
+    ) -> Result<(), LexFault>
+        requires kind { passes (line_kind line.now.bytes.now) ≡ true }
+        requires early { IsFound early (bad_bytes line.now.source.now ++ unended_comments numbered.now.text.now line.now.source.now) }
+        ensures ok { OnOk result (IsLexed numbered.now.text.now line.now.source.now self.old self.new) }
+        ensures broken { (b : Breach) → IsErrOf result (LexFault.Breach b) → IsFirst b (line_breaches numbered.now.text.now (state_of self.old) (line_of line.now.source.now)) }
+    {
+        settled(early)
+    }
+
+    /// A `#` line of another kind.
+    fn refuse(
+        &mut self,
+        numbered: &NumberedText,
+        line: &LineBytes,
+        early: Option<Breach>,
+    ) -> LexFault
+        requires kind { line_kind line.now.bytes.now ≡ LineKind.Unknown }
+        requires early { IsFound early (bad_bytes line.now.source.now ++ unended_comments numbered.now.text.now line.now.source.now) }
+        ensures { (b : Breach) → result ≡ LexFault.Breach b → IsFirst b (line_breaches numbered.now.text.now (state_of self.old) (line_of line.now.source.now)) }
+    {
+        LexFault::Breach(lesser(early, malformed(line)))
+    }
+
+    /// A `#undef` line.
+    fn undefine(
+        &mut self,
+        alloc: Global,
+        numbered: &NumberedText,
+        line: &LineBytes,
+        early: Option<Breach>,
+    ) -> Result<(), LexFault>
+        requires kind { line_kind line.now.bytes.now ≡ LineKind.Undef }
+        requires between { AreBetween 0 (length numbered.now.text.now) line.now.source.now }
+        requires early { IsFound early (bad_bytes line.now.source.now ++ unended_comments numbered.now.text.now line.now.source.now) }
+        ensures ok { OnOk result (IsLexed numbered.now.text.now line.now.source.now self.old self.new) }
+        ensures broken { (b : Breach) → IsErrOf result (LexFault.Breach b) → IsFirst b (line_breaches numbered.now.text.now (state_of self.old) (line_of line.now.source.now)) }
+    {
+        let words = read_words(alloc, numbered, line, 2)?;
+        let Some(name) = sole_name(words) else {
+            return Err(LexFault::Breach(lesser(early, malformed(line))));
+        };
+        if let Some(breach) = early {
+            return Err(LexFault::Breach(breach));
+        }
+        self.macros.undefine(name.as_slice());
+        Ok(())
+    }
+    /// A `#define` line.
+    fn define(
+        &mut self,
+        alloc: Global,
+        numbered: &NumberedText,
+        line: &LineBytes,
+        early: Option<Breach>,
+    ) -> Result<(), LexFault>
+        requires kind { line_kind line.now.bytes.now ≡ LineKind.Define }
+        requires between { AreBetween 0 (length numbered.now.text.now) line.now.source.now }
+        requires early { IsFound early (bad_bytes line.now.source.now ++ unended_comments numbered.now.text.now line.now.source.now) }
+        ensures ok { OnOk result (IsLexed numbered.now.text.now line.now.source.now self.old self.new) }
+        ensures broken { (b : Breach) → IsErrOf result (LexFault.Breach b) → IsFirst b (line_breaches numbered.now.text.now (state_of self.old) (line_of line.now.source.now)) }
+    {
+        let words = read_words(alloc, numbered, line, 2)?;
+        let failure = words.failure;
+        let Some(named) = split_name(words.tokens) else {
+            return Err(LexFault::Breach(lesser(early, malformed(line))));
+        };
+        if is_function_like(line) {
+            return Err(LexFault::Breach(lesser(early, malformed(line))));
+        }
+        if let Some(breach) = least(early, failure) {
+            return Err(LexFault::Breach(breach));
+        }
+        let name = named.name;
+        let tokens = macro_tokens(alloc, named.tokens)?;
+        if !self.macros.may_define(name.as_slice(), tokens.as_slice()) {
+            return Err(LexFault::Breach(malformed(line)));
+        }
+        self.macros.define(name, tokens)?;
+        Ok(())
     }
 }
