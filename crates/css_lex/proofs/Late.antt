@@ -79,7 +79,7 @@ by_kind {A} p none some = by (kind_of_piece p) refl
 abbrev AllCosts : (low : ℕ) → List Cost → Type 0
 AllCosts low costs = All (λ c. low ≤ c.place) costs
 
-costs_from : (low : ℕ) (table : Table) (pieces : List Piece) → AreSolid low pieces → AllCosts low (pieces_costs table pieces)
+pub costs_from : (low : ℕ) (table : Table) (pieces : List Piece) → AreSolid low pieces → AllCosts low (pieces_costs table pieces)
 costs_from low table [] are = All-nil (λ c. low ≤ c.place)
 costs_from low table (p ∷ pieces) are =
     let rest = costs_from low table pieces (solid_lower low (place_of p + 1) pieces (let l = are.1 in omega (arith, l)) are.2) in

@@ -39,3 +39,5 @@ pub mod NamedWords
 pub mod UndefLines
 pub mod DefineLines
 pub mod LineEnds
+pub mod DirectiveWords
+pub mod CssLines

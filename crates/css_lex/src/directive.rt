@@ -12,8 +12,7 @@ use crate::counts::{Counts, ExpansionFault};
 use crate::hash_line::hash_place;
 use crate::line_kind::LineKind;
 use crate::numbered::NumberedText;
-use crate::pieces::Shape;
-use crate::words::{LineBytes, piece_from};
+use crate::words::{LineBytes, is_white_piece, piece_from};
 use css_base::{Token, TokenKind};
 
 /// Counts a directive's token, or gives this breach where it is one too many.
@@ -41,7 +40,7 @@ fn line_end(numbered: &NumberedText, line: &LineBytes) -> usize
     let mut from = 0;
     while from < line.bytes.len() {
         let piece = piece_from(line, from);
-        if !matches!(piece.shape, Shape::Blank) {
+        if !is_white_piece(piece.shape) {
             end = line.source[piece.to - 1].place + 1;
         }
         from = piece.to;

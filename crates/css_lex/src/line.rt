@@ -9,8 +9,10 @@ ghost use Rattle.css_lex.specs.LexState.{state_of, line_of, IsLexed, passes};
 use crate::breach::{Breach, LexFault};
 use crate::counts::Counts;
 use crate::definition::{is_function_like, macro_tokens, sole_name, split_name};
+use crate::directive::{count_directive, directive};
 use crate::expanding::expand;
 use crate::hash_line::malformed;
+use crate::joining::join_strings;
 use crate::line_kind::LineKind;
 use crate::macros::Macros;
 use crate::numbered::NumberedText;
@@ -190,6 +192,43 @@ impl Brought {
             return Err(LexFault::Breach(malformed(line)));
         }
         self.macros.define(name, tokens)?;
+        Ok(())
+    }
+    /// A `#pragma css` line.
+    fn read_directive(
+        &mut self,
+        alloc: Global,
+        numbered: &NumberedText,
+        line: &LineBytes,
+        early: Option<Breach>,
+    ) -> Result<(), LexFault>
+        requires kind { line_kind line.now.bytes.now ≡ LineKind.Css }
+        requires between { AreBetween 0 (length numbered.now.text.now) line.now.source.now }
+        requires early { IsFound early (bad_bytes line.now.source.now ++ unended_comments numbered.now.text.now line.now.source.now) }
+        ensures ok { OnOk result (IsLexed numbered.now.text.now line.now.source.now self.old self.new) }
+        ensures broken { (b : Breach) → IsErrOf result (LexFault.Breach b) → IsFirst b (line_breaches numbered.now.text.now (state_of self.old) (line_of line.now.source.now)) }
+    {
+        if let Err(fault) = count_directive(&mut self.counts, malformed(line)) {
+            return Err(first_fault(early, fault));
+        }
+        let words = read_words(alloc, numbered, line, 3)?;
+        let failure = words.failure;
+        let mut tokens = Vec::new(alloc);
+        let outcome = expand(
+            alloc,
+            &self.macros,
+            words.tokens,
+            &mut self.counts,
+            &mut tokens,
+        );
+        if let Err(fault) = outcome {
+            return Err(first_fault(early, fault));
+        }
+        if let Some(breach) = least(early, failure) {
+            return Err(LexFault::Breach(breach));
+        }
+        let words = join_strings(alloc, tokens)?;
+        self.tokens.push(directive(numbered, line, words))?;
         Ok(())
     }
 }

@@ -3,7 +3,7 @@ ghost use Rattle.std.specs.Prelude.{◌≡◌, ◌<◌, ◌≤◌, ◌+◌, List
 ghost use Rattle.css_base.specs.Tokens.{lexeme, lexemes};
 ghost use Rattle.css_lex.specs.Source.{bytes_of};
 ghost use Rattle.css_lex.specs.Longest.{pieces_of};
-ghost use Rattle.css_lex.specs.Reading.{solid};
+ghost use Rattle.css_lex.specs.Reading.{is_blank_piece, solid};
 ghost use Rattle.css_lex.specs.Words.{IsPieceAt, piece_in, word_of, own_breach, words_of, failure_of, is_kept, skip_behind};
 
 use crate::breach::Breach;
@@ -82,6 +82,13 @@ fn is_read(skip: usize, shape: Shape) -> bool
     ensures { result ≡ is_kept skip shape }
 {
     skip == 0 && !matches!(shape, Shape::Blank)
+}
+
+/// Whether a piece is white space.
+pub(crate) fn is_white_piece(shape: Shape) -> bool
+    ensures { result ≡ is_blank_piece shape }
+{
+    matches!(shape, Shape::Blank)
 }
 
 /// How many solid pieces are still passed over behind a piece.
