@@ -52,20 +52,20 @@ constants_from low pieces are =
 abbrev pub pieces_costs : Table → List Piece → List Cost
 pieces_costs table pieces = flat_map (piece_costs table) pieces
 
-abbrev costs_from_kind : Table → Piece → Option Kind → List Cost
+abbrev pub costs_from_kind : Table → Piece → Option Kind → List Cost
 costs_from_kind table p found =
     elim found [
       | None ↦ []
       | Some kind ↦ record { place = place_of p; tokens = length (replacement table kind); names = replacement_names table kind } ∷ []
     ]
 
-cost_none : (table : Table) (p : Piece) (pieces : List Piece) → kind_of_piece p ≡ None → pieces_costs table (p ∷ pieces) ≡ pieces_costs table pieces
+pub cost_none : (table : Table) (p : Piece) (pieces : List Piece) → kind_of_piece p ≡ None → pieces_costs table (p ∷ pieces) ≡ pieces_costs table pieces
 cost_none table p pieces none = ap (λ o. costs_from_kind table p o ++ pieces_costs table pieces) none
 
-abbrev cost_of : Table → Piece → Kind → Cost
+abbrev pub cost_of : Table → Piece → Kind → Cost
 cost_of table p kind = record { place = place_of p; tokens = length (replacement table kind); names = replacement_names table kind }
 
-cost_some : (table : Table) (p : Piece) (pieces : List Piece) (kind : Kind) → kind_of_piece p ≡ Some kind
+pub cost_some : (table : Table) (p : Piece) (pieces : List Piece) (kind : Kind) → kind_of_piece p ≡ Some kind
     → pieces_costs table (p ∷ pieces) ≡ cost_of table p kind ∷ pieces_costs table pieces
 cost_some table p pieces kind is = ap (λ o. costs_from_kind table p o ++ pieces_costs table pieces) is
 

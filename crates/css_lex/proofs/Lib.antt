@@ -41,3 +41,4 @@ pub mod DefineLines
 pub mod LineEnds
 pub mod DirectiveWords
 pub mod CssLines
+pub mod BreachPlaces

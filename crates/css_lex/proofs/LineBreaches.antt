@@ -75,7 +75,7 @@ kind_found kind text state line early late is a b =
     (both_found early late (bad_bytes line ++ unended_comments text line) (late_of kind text state line) a b)
 
 -- A line's solid pieces are in order.
-first_of_take : (n : ℕ) (c : SourceByte) (line : List SourceByte) → 0 < n → slice_index (map (λ b. b.place) (take n (c ∷ line))) 0 ≡ c.place
+pub first_of_take : (n : ℕ) (c : SourceByte) (line : List SourceByte) → 0 < n → slice_index (map (λ b. b.place) (take n (c ∷ line))) 0 ≡ c.place
 first_of_take zero c line some = absurd (omega arith)
 first_of_take (suc n) c line some = refl
 

@@ -6,6 +6,7 @@ ghost use Rattle.css_lex.specs.Refusals.{line_breaches, bad_bytes, unended_comme
 ghost use Rattle.css_lex.specs.Found.{IsFirst, IsFound, least_of};
 ghost use Rattle.css_lex.specs.LexState.{state_of, line_of, IsLexed, passes};
 
+use crate::bad_bytes::bad_place;
 use crate::breach::{Breach, LexFault};
 use crate::counts::Counts;
 use crate::definition::{is_function_like, macro_tokens, sole_name, split_name};
@@ -13,7 +14,7 @@ use crate::directive::{count_directive, directive};
 use crate::expanding::expand;
 use crate::hash_line::malformed;
 use crate::joining::join_strings;
-use crate::line_kind::LineKind;
+use crate::line_kind::{LineKind, kind_of_line};
 use crate::macros::Macros;
 use crate::numbered::NumberedText;
 use crate::words::{LineBytes, read_words};
@@ -230,5 +231,28 @@ impl Brought {
         let words = join_strings(alloc, tokens)?;
         self.tokens.push(directive(numbered, line, words))?;
         Ok(())
+    }
+    /// One logical line.
+    pub(crate) fn read_line(
+        &mut self,
+        alloc: Global,
+        numbered: &NumberedText,
+        line: &LineBytes,
+    ) -> Result<(), LexFault>
+        requires { AreBetween 0 (length numbered.now.text.now) line.now.source.now }
+        ensures ok { OnOk result (IsLexed numbered.now.text.now line.now.source.now self.old self.new) }
+        ensures broken { (b : Breach) → IsErrOf result (LexFault.Breach b) → IsFirst b (line_breaches numbered.now.text.now (state_of self.old) (line_of line.now.source.now)) }
+    {
+        let early = bad_place(numbered.text, line.source);
+        match kind_of_line(line.bytes) {
+            LineKind::Text => self.read_text(alloc, numbered, line, early),
+            LineKind::Css => self.read_directive(alloc, numbered, line, early),
+            LineKind::Define => self.define(alloc, numbered, line, early),
+            LineKind::Undef => self.undefine(alloc, numbered, line, early),
+            LineKind::Unknown => Err(self.refuse(numbered, line, early)),
+            LineKind::Null | LineKind::Include | LineKind::Pragma => {
+                self.pass_over(numbered, line, early)
+            }
+        }
     }
 }
