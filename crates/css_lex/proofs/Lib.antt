@@ -42,3 +42,5 @@ pub mod LineEnds
 pub mod DirectiveWords
 pub mod CssLines
 pub mod BreachPlaces
+pub mod TextRead
+pub mod Readings

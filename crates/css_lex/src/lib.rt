@@ -15,6 +15,7 @@ mod hash_line;
 mod joining;
 mod laws;
 mod lexeme_class;
+mod lexing;
 mod line;
 mod line_kind;
 mod macro_laws;
@@ -31,9 +32,10 @@ pub use counts::{Counts, ExpansionFault};
 pub use erasure::erase;
 pub use expansion::Span;
 pub use laws::{
-    erasing_keeps_newlines, erasing_twice_is_once, lines_have_pieces, pieces_are_unique,
+    erasing_keeps_newlines, erasing_twice_is_once, lines_have_pieces, one_lexing, pieces_are_unique,
 };
 pub use lexeme_class::LexemeClass;
+pub use lexing::lex;
 pub use line_kind::LineKind;
 pub use macro_laws::{
     defining_sets_one_name, levels_are_enough, other_names_stay, tokens_replace_a_macro,
