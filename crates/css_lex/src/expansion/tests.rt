@@ -14,10 +14,9 @@ fn token(alloc: Global, word: &str) -> Result<MacroToken, Fail> {
         });
     }
     let bytes = Bytes::new(Vec::from_slice(alloc, word.as_bytes())?);
-    if word.as_bytes()[0].is_ascii_alphabetic() {
-        Ok(MacroToken::Word(bytes))
-    } else {
-        Ok(MacroToken::Punctuator(bytes))
+    match word.as_bytes().first() {
+        Some(first) if first.is_ascii_alphabetic() => Ok(MacroToken::Word(bytes)),
+        _ => Ok(MacroToken::Punctuator(bytes)),
     }
 }
 
