@@ -15,7 +15,7 @@ use std::collections::HashSet;
 
 /// Where a token stands: its line, and its bytes of the text from `place` up to `end`.
 #[derive(Clone, Copy, PartialEq, Eq, Debug)]
-pub struct Span {
+pub(crate) struct Span {
     pub line: Line,
     pub place: u32,
     pub end: u32,

@@ -14,9 +14,7 @@ mod macro_token;
 mod macros;
 mod source;
 
-pub use counts::{Counts, ExpansionFault};
 pub use erasure::erase;
-pub use expansion::Span;
 pub use laws::{erasing_keeps_newlines, erasing_twice_is_once};
 pub use lexeme_class::LexemeClass;
 pub use line_kind::LineKind;
@@ -24,8 +22,6 @@ pub use macro_laws::{
     defining_sets_one_name, levels_are_enough, other_names_stay, tokens_replace_a_macro,
     undefining_takes_one_name,
 };
-pub use macro_token::MacroToken;
-pub use macros::{Definition, Macros};
 pub use source::SourceByte;
 
 #[cfg(test)]
