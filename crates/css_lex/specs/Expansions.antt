@@ -5,11 +5,14 @@ use Rattle.std.specs.List.{list_any}
 use Rattle.std.specs.HashSet.{contains}
 use Rattle.css_base.specs.Tokens.{Kind, Lexeme, At}
 use Rattle.css_lex.specs.Macros.{Table, macro_of, undefined, replacement, replacement_names}
-use Rattle.css_lex.specs.MacroTokens.{plain_kinds}
+use Rattle.css_lex.specs.MacroTokens.{plain_kind, plain_kinds}
+use Rattle.css_lex.specs.MacroTables.{table_of}
 use Rattle.css_lex.specs.declared.expansion.Frame.{Frame}
 use Rattle.css_lex.specs.declared.expansion.Expansion.{Expansion}
 use Rattle.css_lex.specs.declared.expansion.Span.{Span}
 use Rattle.css_lex.specs.declared.counts.Counts.{Counts}
+use Rattle.css_lex.specs.declared.macro_token.MacroToken.{MacroToken}
+use Rattle.css_lex.specs.declared.macros.Macros.{Macros}
 
 -- Tokens that stand at one place.
 abbrev pub placed : Span → List Kind → List Lexeme
@@ -69,3 +72,17 @@ names_left table (f ∷ frames) =
 -- The most steps that can be left: each one counts a token, counts a name and adds a macro, or ends a macro.
 abbrev pub steps_left : Counts → Expansion → ℕ
 steps_left counts e = (1000000 - counts.tokens) + 2 * (1000000 - counts.names) + length e.frames.items
+
+-- What is left of an expansion, and how many names are still to be replaced.
+abbrev pub tokens_to_come : Macros → Expansion → List Kind
+tokens_to_come macros e = left (table_of macros) e.frames.items
+
+abbrev pub names_to_come : Macros → Expansion → ℕ
+names_to_come macros e = names_left (table_of macros) e.frames.items
+
+-- What replaces a token of an expansion, and how many names are replaced there.
+abbrev pub tokens_given : Macros → Expansion → MacroToken → List Kind
+tokens_given macros e token = replacement (shown (table_of macros) e.frames.items) (plain_kind token)
+
+abbrev pub names_given : Macros → Expansion → MacroToken → ℕ
+names_given macros e token = replacement_names (shown (table_of macros) e.frames.items) (plain_kind token)

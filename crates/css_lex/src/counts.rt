@@ -9,7 +9,7 @@ const MOST: u32 = 1_000_000;
 
 /// Why a token isn't replaced.
 #[derive(Clone, Copy, PartialEq, Eq, Debug)]
-pub enum ExpansionFault {
+pub(crate) enum ExpansionFault {
     /// The tokens or the replaced names of the text pass 1,000,000.
     TooMany,
     /// There was no memory.
@@ -51,7 +51,7 @@ impl From<NoMemory> for ExpansionFault {
 
 /// How many tokens a text has so far, before strings are joined, and how many macro names were replaced in it.
 #[derive(Drop, Debug)]
-pub struct Counts {
+pub(crate) struct Counts {
     pub tokens: u32,
     pub names: u32,
     ghost few_tokens: { tokens ≤ 1000000 },

@@ -4,7 +4,7 @@ ghost use Rattle.css_base.specs.Tokens.{kind_of, lexemes};
 ghost use Rattle.css_lex.specs.Macros.{replacement, replacement_names};
 ghost use Rattle.css_lex.specs.MacroTokens.{plain_kind};
 ghost use Rattle.css_lex.specs.MacroTables.{table_of};
-ghost use Rattle.css_lex.specs.Expansions.{placed, shown, left, names_left, steps_left, IsExpansion, IsNoMacro, IsMacro, Hides};
+ghost use Rattle.css_lex.specs.Expansions.{placed, shown, tokens_to_come, names_to_come, tokens_given, names_given, steps_left, IsExpansion, IsNoMacro, IsMacro, Hides};
 
 use crate::counts::{Counts, ExpansionFault};
 use crate::macro_token::MacroToken;
@@ -15,7 +15,7 @@ use std::collections::HashSet;
 
 /// Where a token stands: its line, and its bytes of the text from `place` up to `end`.
 #[derive(Clone, Copy, PartialEq, Eq, Debug)]
-pub struct Span {
+pub(crate) struct Span {
     pub line: Line,
     pub place: u32,
     pub end: u32,
@@ -102,22 +102,22 @@ impl<'a> Expansion<'a> {
         requires { IsExpansion (table_of macros.now) self.old }
         ensures keeps { OnOk result (IsExpansion (table_of macros.now) self.new) }
         ensures tokens { OnOk result
-            (lexemes tokens.new.items ++ placed span.now (left (table_of macros.now) self.new.frames.items)
+            (lexemes tokens.new.items ++ placed span.now (tokens_to_come macros.now self.new)
             ≡ lexemes tokens.old.items ++ placed span.now
-            (replacement (shown (table_of macros.now) self.old.frames.items) (plain_kind token.now)
-            ++ left (table_of macros.now) self.old.frames.items)) }
+            (tokens_given macros.now self.old token.now
+            ++ tokens_to_come macros.now self.old)) }
         ensures token_count { OnOk result
-            (counts.new.tokens + length (left (table_of macros.now) self.new.frames.items)
-            ≡ counts.old.tokens + (length (replacement (shown (table_of macros.now) self.old.frames.items) (plain_kind token.now))
-            + length (left (table_of macros.now) self.old.frames.items))) }
+            (counts.new.tokens + length (tokens_to_come macros.now self.new)
+            ≡ counts.old.tokens + (length (tokens_given macros.now self.old token.now)
+            + length (tokens_to_come macros.now self.old))) }
         ensures name_count { OnOk result
-            (counts.new.names + names_left (table_of macros.now) self.new.frames.items
-            ≡ counts.old.names + (replacement_names (shown (table_of macros.now) self.old.frames.items) (plain_kind token.now)
-            + names_left (table_of macros.now) self.old.frames.items)) }
+            (counts.new.names + names_to_come macros.now self.new
+            ≡ counts.old.names + (names_given macros.now self.old token.now
+            + names_to_come macros.now self.old)) }
         ensures nearer { OnOk result (steps_left counts.new self.new < steps_left counts.old self.old) }
         ensures too_many { IsErrOf result ExpansionFault.TooMany
-            → (1000000 < counts.old.tokens + length (replacement (shown (table_of macros.now) self.old.frames.items) (plain_kind token.now)))
-            ⊎ (1000000 < counts.old.names + replacement_names (shown (table_of macros.now) self.old.frames.items) (plain_kind token.now)) }
+            → (1000000 < counts.old.tokens + length (tokens_given macros.now self.old token.now))
+            ⊎ (1000000 < counts.old.names + names_given macros.now self.old token.now) }
     {
         let Some(frame) = self.macro_at(macros, token) else {
             let kind = token.to_kind(alloc)?;
@@ -139,12 +139,12 @@ impl<'a> Expansion<'a> {
     ) -> Result<(), ExpansionFault>
         requires { IsExpansion (table_of macros.now) self.old }
         ensures tokens { OnOk result (lexemes tokens.new.items
-            ≡ lexemes tokens.old.items ++ placed span.now (left (table_of macros.now) self.old.frames.items)) }
-        ensures token_count { OnOk result (counts.new.tokens ≡ counts.old.tokens + length (left (table_of macros.now) self.old.frames.items)) }
-        ensures name_count { OnOk result (counts.new.names ≡ counts.old.names + names_left (table_of macros.now) self.old.frames.items) }
+            ≡ lexemes tokens.old.items ++ placed span.now (tokens_to_come macros.now self.old)) }
+        ensures token_count { OnOk result (counts.new.tokens ≡ counts.old.tokens + length (tokens_to_come macros.now self.old)) }
+        ensures name_count { OnOk result (counts.new.names ≡ counts.old.names + names_to_come macros.now self.old) }
         ensures too_many { IsErrOf result ExpansionFault.TooMany
-            → (1000000 < counts.old.tokens + length (left (table_of macros.now) self.old.frames.items))
-            ⊎ (1000000 < counts.old.names + names_left (table_of macros.now) self.old.frames.items) }
+            → (1000000 < counts.old.tokens + length (tokens_to_come macros.now self.old))
+            ⊎ (1000000 < counts.old.names + names_to_come macros.now self.old) }
     {
         while let Some(innermost) = self.frames.pop() {
             if let Some((token, rest)) = innermost.rest.split_first() {

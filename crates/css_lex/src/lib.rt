@@ -28,9 +28,7 @@ mod values;
 mod words;
 
 pub use breach::Breach;
-pub use counts::{Counts, ExpansionFault};
 pub use erasure::erase;
-pub use expansion::Span;
 pub use laws::{
     erasing_keeps_newlines, erasing_twice_is_once, lines_have_pieces, one_lexing, pieces_are_unique,
 };
@@ -41,8 +39,6 @@ pub use macro_laws::{
     defining_sets_one_name, levels_are_enough, other_names_stay, tokens_replace_a_macro,
     undefining_takes_one_name,
 };
-pub use macro_token::MacroToken;
-pub use macros::{Definition, Macros};
 pub use pieces::Shape;
 pub use source::SourceByte;
 

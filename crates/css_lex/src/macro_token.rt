@@ -9,7 +9,7 @@ use std::alloc::Global;
 
 /// A token of a macro's replacement: what any token but a directive is.
 #[derive(Drop, Debug)]
-pub enum MacroToken {
+pub(crate) enum MacroToken {
     /// An identifier or keyword.
     Word(Bytes),
     /// An integer constant (C99 6.4.4.1) with its type and value.

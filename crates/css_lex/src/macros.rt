@@ -13,14 +13,14 @@ use std::alloc::Global;
 
 /// A macro: what replaces its name, and whether it is predefined.
 #[derive(Drop, Debug)]
-pub struct Definition {
+pub(crate) struct Definition {
     pub tokens: Vec<MacroToken>,
     pub predefined: bool,
 }
 
 /// The names that were defined, each with the macro that it still is. Contracts see their table, `table_of`.
 #[derive(Drop)]
-pub struct Macros {
+pub(crate) struct Macros {
     names: IndexMap<Vec<u8>, Option<Definition>>,
 }
 

@@ -14,10 +14,9 @@ fn token(alloc: Global, word: &str) -> Result<MacroToken, Fail> {
         });
     }
     let bytes = Bytes::new(Vec::from_slice(alloc, word.as_bytes())?);
-    if word.as_bytes()[0].is_ascii_alphabetic() {
-        Ok(MacroToken::Word(bytes))
-    } else {
-        Ok(MacroToken::Punctuator(bytes))
+    match word.as_bytes().first() {
+        Some(first) if first.is_ascii_alphabetic() => Ok(MacroToken::Word(bytes)),
+        _ => Ok(MacroToken::Punctuator(bytes)),
     }
 }
 
@@ -205,14 +204,20 @@ fn many_tokens_and_names(rt: HostRuntime) -> Result<(), Fail> {
 fn long_chain(rt: HostRuntime) -> Result<(), Fail> {
     let alloc = rt.alloc();
     let mut macros = Macros::new(alloc)?;
-    for k in 0..200_000u32 {
+    for k in 0..1_000_000u32 {
         let name = format!(in alloc; "C{k}")?;
         let next = format!(in alloc; "C{}", k + 1)?;
         define(alloc, &mut macros, name.as_str(), next.as_str())?;
     }
     assert_eq!(rt;
         replaced(&rt, alloc, &macros, "C0")?.as_str(),
-        "C200000 / 200000"
+        "C1000000 / 1000000"
     );
+    define(alloc, &mut macros, "C1000000", "end")?;
+    assert_eq!(rt;
+        replaced(&rt, alloc, &macros, "C1")?.as_str(),
+        "end / 1000000"
+    );
+    assert!(rt; !counted(alloc, &macros, "C0")?.0);
     Ok(())
 }
