@@ -168,3 +168,6 @@ pub fn lex(alloc: Global, text: &[u8]) -> Result<Tokens, FrontFault>
         Err(fault) => Err(front_fault(text, fault)),
     }
 }
+
+#[cfg(test)]
+mod tests;
