@@ -24,7 +24,6 @@ pub mod WordsRead
 pub mod Levels
 pub mod Frames
 pub mod Replacing
-pub mod PlainKinds
 pub mod Definitions
 pub mod Firsts
 pub mod CommentBytes
