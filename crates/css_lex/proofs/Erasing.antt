@@ -32,7 +32,7 @@ none_left text shown is = record {
 abbrev pub at_place : List SourceByte → ℕ → SourceByte
 at_place text place = get_or text place (record { byte = 0; place = 0 })
 
-rest_at : (shown : List SourceByte) (place : ℕ) → place < length shown → drop place shown ≡ at_place shown place ∷ drop (place + 1) shown
+pub rest_at : (shown : List SourceByte) (place : ℕ) → place < length shown → drop place shown ≡ at_place shown place ∷ drop (place + 1) shown
 rest_at shown place inside = drop_more shown place (record { byte = 0; place = 0 }) inside
 
 pub newline_line : (from to : ℕ) (front : List SourceByte) (c : SourceByte) (rest : List SourceByte) → c.byte ≡ 10

@@ -3,12 +3,8 @@ use Rattle.std.proofs.Common.{ℕ, zero, suc, ◌+◌, ◌-◌, ◌<◌, ◌≤�
 use Rattle.css_lex.specs.declared.source.SourceByte.{SourceByte}
 use Rattle.css_lex.specs.Source.{splice_length, unspliced, bytes_of}
 use Rattle.css_lex.specs.Lines.{shown_bytes}
+pub use Rattle.css_lex.specs.Rising.{AreBetween}
 use Rattle.css_lex.specs.Comments.{comment_length, constant_behind, front_behind, uncommented}
-
--- The places rise from `low` on, and stay below `high`.
-abbrev pub AreBetween : (low high : ℕ) → List SourceByte → Type 0
-AreBetween low high [] = low ≤ high
-AreBetween low high (c ∷ bytes) = (low ≤ c.place) × (c.place < high) × AreBetween (c.place + 1) high bytes
 
 pub from_lower : (low more high : ℕ) (bytes : List SourceByte) → low ≤ more → AreBetween more high bytes → AreBetween low high bytes
 from_lower low more high [] l between = le_trans l between

@@ -1,33 +1,45 @@
 -- The lexemes of a logical line (C99 6.4), longest first.
-use Rattle.std.specs.Prelude.{◌≡◌, ◌≢◌, ℕ, ◌⊎◌, Bool, false, not, ◌&&◌, List, [], ◌∷◌, ◌++◌, All, Contains, IsTrue, codes, ◌==◌}
+use Rattle.std.specs.Prelude.{◌≡◌, ◌≢◌, ℕ, ◌⊎◌, Bool, false, not, ◌&&◌, ◌||◌, List, [], ◌∷◌, ◌++◌, All, Contains, IsTrue, codes, ◌==◌}
 use Rattle.css_lex.specs.declared.lexeme_class.LexemeClass.{LexemeClass}
 use Rattle.css_lex.specs.declared.lexeme_class.LexemeClass.TheVariants as classes
+use Rattle.css_lex.specs.declared.pieces.Shape.{Shape}
+use Rattle.css_lex.specs.declared.pieces.Shape.TheVariants as shapes
 use Rattle.css_lex.specs.declared.source.SourceByte.{SourceByte}
 use Rattle.css_lex.specs.Source.{bytes_of}
-use Rattle.css_lex.specs.LineKinds.{is_blank, is_digit, is_nondigit}
+use Rattle.css_lex.specs.LineKinds.{is_blank, is_digit, is_nondigit, is_word_byte}
 
 -- An identifier or keyword (C99 6.4.2.1): a letter or underscore, then letters, underscores and digits.
 abbrev pub IsIdentifier : List ℕ → Type 0
 IsIdentifier [] = ⊥
-IsIdentifier (b ∷ bytes) = IsTrue (is_nondigit b) × All (λ c. IsTrue (is_nondigit c) ⊎ IsTrue (is_digit c)) bytes
+IsIdentifier (b ∷ bytes) = IsTrue (is_nondigit b) × All (λ c. IsTrue (is_word_byte c)) bytes
 
--- A byte that may stand behind another one in a preprocessing number (C99 6.4.8): a sign only directly behind an
+-- The letter of an exponent: `e`, `E`, `p` or `P`.
+abbrev pub is_exponent : ℕ → Bool
+is_exponent b = (b == 101) || ((b == 69) || ((b == 112) || (b == 80)))
+
+-- Whether a byte may stand behind another one in a preprocessing number (C99 6.4.8): a sign only directly behind an
 -- exponent's letter.
-abbrev pub GoesOn : ℕ → ℕ → Type 0
-GoesOn before b =
-    IsTrue (is_nondigit b) ⊎ (IsTrue (is_digit b) ⊎ ((b ≡ 46) ⊎ (((b ≡ 43) ⊎ (b ≡ 45)) × Contains (codes "eEpP") before)))
+abbrev pub goes_on : (before b : ℕ) → Bool
+goes_on before b = is_word_byte b || ((b == 46) || (((b == 43) || (b == 45)) && is_exponent before))
 
--- The bytes of a preprocessing number behind its first ones.
-abbrev pub IsNumberTail : ℕ → List ℕ → Type 0
+-- The bytes of a preprocessing number behind its first one.
+abbrev pub IsNumberTail : (before : ℕ) → List ℕ → Type 0
 IsNumberTail before [] = Unit {0}
-IsNumberTail before (b ∷ bytes) = GoesOn before b × IsNumberTail b bytes
+IsNumberTail before (b ∷ bytes) = IsTrue (goes_on before b) × IsNumberTail b bytes
 
--- A preprocessing number (C99 6.4.8): a digit, or a period and a digit, and what may follow.
+abbrev pub begins_with_digit : List ℕ → Bool
+begins_with_digit [] = false
+begins_with_digit (b ∷ bytes) = is_digit b
+
+-- What a preprocessing number begins with: a digit, or a period and a digit.
+abbrev pub begins_number : List ℕ → Bool
+begins_number [] = false
+begins_number (b ∷ bytes) = is_digit b || ((b == 46) && begins_with_digit bytes)
+
+-- A preprocessing number (C99 6.4.8).
 abbrev pub IsNumber : List ℕ → Type 0
 IsNumber [] = ⊥
-IsNumber (b ∷ bytes) =
-    (IsTrue (is_digit b) × IsNumberTail b bytes)
-    ⊎ ((b ≡ 46) × (d : ℕ) × (others : List ℕ) × (bytes ≡ d ∷ others) × IsTrue (is_digit d) × IsNumberTail d others)
+IsNumber (b ∷ bytes) = IsTrue (begins_number (b ∷ bytes)) × IsNumberTail b bytes
 
 -- What may stand between two quotes: no newline, and a quote or a backslash only behind a backslash that takes its meaning.
 abbrev pub IsBody : (quote : ℕ) (escaped : Bool) (bytes : List ℕ) → Type 0
@@ -69,17 +81,11 @@ IsLongest bytes rest = (more others : List ℕ) → rest ≡ more ++ others → 
 abbrev pub IsNoFront : List ℕ → Type 0
 IsNoFront bytes = (front others : List ℕ) → bytes ≡ front ++ others → IsLexeme front → ⊥
 
--- What a piece of a line is: one byte of white space, a lexeme, or one byte that neither is the one nor begins the other.
-pub data Shape : Type 0 where
-  Blank : Shape
-  Lexeme : LexemeClass → Shape
-  Stray : Shape
-
 -- The shape of some bytes of a line with others behind them.
 abbrev pub HasShape : Shape → (bytes rest : List ℕ) → Type 0
-HasShape Blank bytes rest = (b : ℕ) × (bytes ≡ b ∷ []) × IsTrue (is_blank b)
-HasShape (Lexeme class) bytes rest = IsOfClass class bytes × IsLongest bytes rest
-HasShape Stray bytes rest = (b : ℕ) × (bytes ≡ b ∷ []) × (is_blank b ≡ false) × IsNoFront (b ∷ rest)
+HasShape shapes.Blank bytes rest = (b : ℕ) × (bytes ≡ b ∷ []) × IsTrue (is_blank b)
+HasShape (shapes.Lexeme class) bytes rest = IsOfClass class bytes × IsLongest bytes rest
+HasShape shapes.Stray bytes rest = (b : ℕ) × (bytes ≡ b ∷ []) × (is_blank b ≡ false) × IsNoFront (b ∷ rest)
 
 pub record Piece : Type 0 where
   pub shape : Shape

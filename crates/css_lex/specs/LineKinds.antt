@@ -15,9 +15,13 @@ is_digit b = nat_le 48 b && nat_le b 57
 abbrev pub is_nondigit : ℕ → Bool
 is_nondigit b = (nat_le 65 b && nat_le b 90) || ((nat_le 97 b && nat_le b 122) || (b == 95))
 
+-- A byte that may stand in an identifier behind its first one (C99 6.4.2.1).
+abbrev pub is_word_byte : ℕ → Bool
+is_word_byte b = is_nondigit b || is_digit b
+
 -- The letters, underscores and digits that the text begins with.
 abbrev pub first_word : List ℕ → List ℕ
-first_word text = take_while (λ b. is_nondigit b || is_digit b) text
+first_word text = take_while is_word_byte text
 
 -- The text behind the white space that it begins with.
 abbrev pub behind_blanks : List ℕ → List ℕ

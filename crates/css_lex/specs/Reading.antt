@@ -4,10 +4,12 @@ use Rattle.css_base.specs.Tokens.{Kind}
 use Rattle.css_lex.specs.declared.lexeme_class.LexemeClass.TheVariants as classes
 use Rattle.css_lex.specs.declared.line_kind.LineKind.{LineKind}
 use Rattle.css_lex.specs.declared.line_kind.LineKind.TheVariants as kinds
+use Rattle.css_lex.specs.declared.pieces.Shape.{Shape}
+use Rattle.css_lex.specs.declared.pieces.Shape.TheVariants as shapes
 use Rattle.css_lex.specs.declared.source.SourceByte.{SourceByte}
 use Rattle.css_lex.specs.Source.{begins_with, bytes_of}
 use Rattle.css_lex.specs.Lines.{LogicalLine, logical_lines, kind_of_line}
-use Rattle.css_lex.specs.Lexemes.{Shape, Blank, Lexeme, Piece, ConsistsOf}
+use Rattle.css_lex.specs.Lexemes.{Piece, ConsistsOf}
 use Rattle.css_lex.specs.Values.{kind_of_lexeme}
 use Rattle.css_lex.specs.Macros.{Table, may_define, defined, undefined}
 
@@ -21,11 +23,11 @@ abbrev pub Reads : (text : List ℕ) (lines : List ReadLine) → Type 0
 Reads text lines = (map (λ r. r.line) lines ≡ logical_lines text) × All (λ r. ConsistsOf r.line.bytes r.pieces) lines
 
 abbrev pub is_blank_piece : Shape → Bool
-is_blank_piece Blank = true
+is_blank_piece shapes.Blank = true
 is_blank_piece _ = false
 
 abbrev pub is_identifier : Shape → Bool
-is_identifier (Lexeme classes.Identifier) = true
+is_identifier (shapes.Lexeme classes.Identifier) = true
 is_identifier _ = false
 
 -- The pieces that aren't white space.
@@ -42,7 +44,7 @@ behind_first pieces = drop 1 (from_solid pieces)
 
 -- What a piece stands for: none where it is no lexeme, or its lexeme is out of range or form.
 abbrev pub kind_in : Shape → List ℕ → Option Kind
-kind_in (Lexeme class) bytes = kind_of_lexeme class bytes
+kind_in (shapes.Lexeme class) bytes = kind_of_lexeme class bytes
 kind_in _ bytes = None
 
 abbrev pub kind_of_piece : Piece → Option Kind
@@ -59,6 +61,15 @@ last_place (b ∷ c ∷ bytes) = last_place (c ∷ bytes)
 
 abbrev pub end_of : Piece → ℕ
 end_of p = last_place p.bytes + 1
+
+-- The place of the first one of some pieces, and the place behind the last one.
+abbrev pub first_place : List Piece → ℕ
+first_place pieces = slice_index (map place_of pieces) 0
+
+abbrev pub last_end : List Piece → ℕ
+last_end [] = 0
+last_end (p ∷ []) = end_of p
+last_end (p ∷ q ∷ pieces) = last_end (q ∷ pieces)
 
 -- What a `#define` says: a name, and the pieces that stand for it.
 pub record Definition : Type 0 where
@@ -105,11 +116,6 @@ table_by _ table pieces = table
 
 abbrev pub table_behind : Table → ReadLine → Table
 table_behind table r = table_by (kind_of_line r.line) table r.pieces
-
--- What the lines give one after the other, each with the macros that are defined where it stands.
-abbrev pub over_lines : {A : Type 0} → (Table → ReadLine → List A) → Table → List ReadLine → List A
-over_lines give table [] = []
-over_lines give table (r ∷ lines) = give table r ++ over_lines give (table_behind table r) lines
 
 -- The pieces of a line that are read as tokens: all of a text line, the words of a directive behind `#`, `pragma` and `css`,
 -- and what stands behind `#` and `define`.

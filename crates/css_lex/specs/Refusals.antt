@@ -3,22 +3,22 @@ use Rattle.std.specs.Prelude.{ℕ, ◌+◌, Bool, true, false, not, ◌&&◌, �
 use Rattle.css_base.specs.declared.static_fault.StaticFault.{StaticFault}
 use Rattle.css_base.specs.declared.static_fault.StaticName.{StaticName}
 use Rattle.css_base.specs.declared.static_fault.StaticName.TheVariants as names
+use Rattle.css_lex.specs.declared.breach.Breach.{Breach}
 use Rattle.css_lex.specs.declared.line_kind.LineKind.{LineKind}
 use Rattle.css_lex.specs.declared.line_kind.LineKind.TheVariants as kinds
+use Rattle.css_lex.specs.declared.pieces.Shape.{Shape}
+use Rattle.css_lex.specs.declared.pieces.Shape.TheVariants as shapes
 use Rattle.css_lex.specs.declared.source.SourceByte.{SourceByte}
 use Rattle.css_lex.specs.Source.{begins_with, unspliced, bytes_of}
 use Rattle.css_lex.specs.Comments.{length_before}
 use Rattle.css_lex.specs.Lines.{kind_of_line}
-use Rattle.css_lex.specs.Lexemes.{Shape, Lexeme, Stray, Piece}
-use Rattle.css_lex.specs.Macros.{Table, may_define, replacement, replacement_names, predefined_macros}
-use Rattle.css_lex.specs.Reading.{ReadLine, Definition, over_lines, solid, read_pieces, kind_of_piece, place_of, definition_of, undefined_of}
-use Rattle.css_lex.specs.Spelling.{line_at, first_place}
+use Rattle.css_lex.specs.Lexemes.{Piece}
+use Rattle.css_lex.specs.Macros.{Table, may_define}
+use Rattle.css_lex.specs.Reading.{ReadLine, Definition, solid, read_pieces, kind_of_piece, place_of, first_place, definition_of, undefined_of}
+use Rattle.css_lex.specs.Costs.{Cost, costs, State, at_start, over_lines}
+use Rattle.css_lex.specs.Spelling.{line_at}
 
 -- A rule that is broken at a place.
-pub record Breach : Type 0 where
-  pub name : StaticName
-  pub place : ℕ
-
 abbrev pub breach : StaticName → ℕ → Breach
 breach name place = record { name = name; place = place }
 
@@ -41,12 +41,18 @@ abbrev pub unended_comments : (text : List ℕ) → List SourceByte → List Bre
 unended_comments text bytes =
     map (λ b. breach names.BadToken b.place) (filter (λ b. (b.byte == 32) && begins_unended text b.place) bytes)
 
+-- The rule that one byte breaks.
+abbrev pub byte_breach : (text : List ℕ) → SourceByte → Option Breach
+byte_breach text c =
+    if is_bad_byte c.byte then Some (breach names.BadByte c.place)
+    else (if (c.byte == 32) && begins_unended text c.place then Some (breach names.BadToken c.place) else None)
+
 abbrev pub is_stray : Shape → Bool
-is_stray Stray = true
+is_stray shapes.Stray = true
 is_stray _ = false
 
 abbrev pub is_lexeme : Shape → Bool
-is_lexeme (Lexeme class) = true
+is_lexeme (shapes.Lexeme class) = true
 is_lexeme _ = false
 
 -- Where a token is read and none is spelled: also a constant that isn't ended, and `#` behind another token.
@@ -87,29 +93,6 @@ malformed text table r =
     if is_malformed (kind_of_line r.line) (is_empty (unspelled text r)) table r.pieces
     then breach names.BadMacro (first_place (solid r.pieces)) ∷ [] else []
 
--- How many tokens a place of the text gives, before strings are joined, and how many names are replaced there.
-pub record Cost : Type 0 where
-  pub place : ℕ
-  pub tokens : ℕ
-  pub names : ℕ
-
-abbrev pub piece_costs : Table → Piece → List Cost
-piece_costs table p =
-    elim (kind_of_piece p) [
-      | None ↦ []
-      | Some kind ↦ record { place = place_of p; tokens = length (replacement table kind); names = replacement_names table kind } ∷ []
-    ]
-
--- A directive is one token, and each of its words is one.
-abbrev pub costs_by : LineKind → Table → ReadLine → List Cost
-costs_by kinds.Text table r = flat_map (piece_costs table) (read_pieces r)
-costs_by kinds.Css table r =
-    record { place = first_place (solid r.pieces); tokens = 1; names = 0 } ∷ flat_map (piece_costs table) (read_pieces r)
-costs_by _ table r = []
-
-abbrev pub costs : Table → ReadLine → List Cost
-costs table r = costs_by (kind_of_line r.line) table r
-
 -- The places from which on there are more than 1,000,000 tokens or replaced names, of which so many stand before.
 abbrev pub overruns : (tokens names : ℕ) → List Cost → List Breach
 overruns tokens replaced_names [] = []
@@ -119,14 +102,18 @@ overruns tokens replaced_names (c ∷ costs) =
     let more = overruns t n costs in
     if nat_lt 1000000 t || nat_lt 1000000 n then breach names.BadMacro c.place ∷ more else more
 
--- The breaches of a text that is read as these lines, by rule: bytes, tokens, macros, constants.
+-- The breaches in a line, by rule: bytes, tokens, macros, constants.
+abbrev pub line_breaches : (text : List ℕ) → State → ReadLine → List Breach
+line_breaches text state r =
+    bad_bytes r.line.bytes
+    ++ (unended_comments text r.line.bytes
+    ++ (stray_pieces (read_pieces r)
+    ++ (malformed text state.table r
+    ++ (overruns state.tokens state.names (costs state.table r) ++ bad_constants (read_pieces r)))))
+
+-- The breaches of a text that is read as these lines.
 abbrev pub breaches : (text : List ℕ) → List ReadLine → List Breach
-breaches text lines =
-    flat_map (λ r. bad_bytes r.line.bytes) lines
-    ++ (flat_map (λ r. unended_comments text r.line.bytes ++ stray_pieces (read_pieces r)) lines
-    ++ (over_lines (malformed text) predefined_macros lines
-    ++ (overruns 0 0 (over_lines costs predefined_macros lines)
-    ++ flat_map (λ r. bad_constants (read_pieces r)) lines)))
+breaches text lines = over_lines (line_breaches text) at_start lines
 
 -- The breach at the least place; at one place the first.
 abbrev pub first_breach : List Breach → Option Breach

@@ -5,8 +5,9 @@ use Rattle.css_lex.specs.declared.line_kind.LineKind.{LineKind}
 use Rattle.css_lex.specs.declared.line_kind.LineKind.TheVariants as kinds
 use Rattle.css_lex.specs.Lines.{kind_of_line, newlines}
 use Rattle.css_lex.specs.Lexemes.{Piece}
-use Rattle.css_lex.specs.Macros.{Table, replacement, predefined_macros}
-use Rattle.css_lex.specs.Reading.{ReadLine, over_lines, solid, read_pieces, kind_of_piece, place_of, end_of}
+use Rattle.css_lex.specs.Macros.{Table, replacement}
+use Rattle.css_lex.specs.Reading.{ReadLine, solid, read_by, kind_of_piece, place_of, end_of, first_place, last_end}
+use Rattle.css_lex.specs.Costs.{at_start, over_lines}
 
 -- The line in which a place of the text lies, counted from 1.
 abbrev pub line_at : (text : List ℕ) (place : ℕ) → ℕ
@@ -33,29 +34,20 @@ abbrev pub in_order : List Lexeme → Lexemes
 in_order [] = End
 in_order (token ∷ tokens) = More token (in_order tokens)
 
--- The place of the first one of some pieces, and the place behind the last one.
-abbrev pub first_place : List Piece → ℕ
-first_place pieces = slice_index (map place_of pieces) 0
-
-abbrev pub last_end : List Piece → ℕ
-last_end [] = 0
-last_end (p ∷ []) = end_of p
-last_end (p ∷ q ∷ pieces) = last_end (q ∷ pieces)
-
 -- A directive with its words. Its range is from the `#` up to behind the last word.
 abbrev pub directive : (text : List ℕ) (line words : List Piece) → Table → Lexeme
 directive text line words table =
     At (Directive (in_order (joined (flat_map (tokens_of text table) words)))) (line_at text (first_place line)) (first_place line) (last_end line)
 
--- The tokens of a line.
-abbrev pub tokens_by : LineKind → (text : List ℕ) → Table → ReadLine → List Lexeme
-tokens_by kinds.Text text table r = flat_map (tokens_of text table) (read_pieces r)
-tokens_by kinds.Css text table r = directive text (solid r.pieces) (read_pieces r) table ∷ []
-tokens_by _ text table r = []
+-- The tokens of a line's solid pieces.
+abbrev pub tokens_by : LineKind → (text : List ℕ) → Table → List Piece → List Lexeme
+tokens_by kinds.Text text table pieces = flat_map (tokens_of text table) (read_by kinds.Text pieces)
+tokens_by kinds.Css text table pieces = directive text pieces (read_by kinds.Css pieces) table ∷ []
+tokens_by _ text table pieces = []
 
 abbrev pub tokens_of_line : (text : List ℕ) → Table → ReadLine → List Lexeme
-tokens_of_line text table r = tokens_by (kind_of_line r.line) text table r
+tokens_of_line text table r = tokens_by (kind_of_line r.line) text table (solid r.pieces)
 
 -- The tokens of a text that is read as these lines.
 abbrev pub tokens_of_lines : (text : List ℕ) → List ReadLine → List Lexeme
-tokens_of_lines text lines = joined (over_lines (tokens_of_line text) predefined_macros lines)
+tokens_of_lines text lines = joined (over_lines (λ state r. tokens_of_line text state.table r) at_start lines)

@@ -1,37 +1,45 @@
 -- What a lexeme stands for: integer constants (C99 6.4.4.1), character constants (C99 6.4.4.4) and strings (C99 6.4.5).
-use Rattle.std.specs.Prelude.{ℕ, zero, suc, ◌+◌, ◌-◌, ◌*◌, ◌^◌, Bool, true, false, ◌&&◌, ◌||◌, not, List, [], ◌∷◌, length, take, drop, find, fold, take_while, codes, bytes_eq, nat_le, nat_lt, ◌==◌, if◌then◌else◌, Option, Some, None, option_map, option_and_then}
+use Rattle.std.specs.Prelude.{ℕ, zero, suc, ◌+◌, ◌-◌, ◌*◌, ◌^◌, Bool, true, false, ◌&&◌, ◌||◌, not, List, [], ◌∷◌, length, take, drop, fold, take_while, codes, bytes_eq, nat_le, nat_lt, ◌==◌, if◌then◌else◌, Option, Some, None, option_map, option_and_then}
 use Rattle.css_base.specs.declared.int_type.IntType.{IntType}
 use Rattle.css_base.specs.declared.int_type.IntType.TheVariants as types
 use Rattle.css_base.specs.Tokens.{Kind, Word, Number, Character, Text, Punctuator}
 use Rattle.css_lex.specs.declared.lexeme_class.LexemeClass.{LexemeClass}
 use Rattle.css_lex.specs.declared.lexeme_class.LexemeClass.TheVariants as classes
+use Rattle.css_lex.specs.declared.values.Candidate.{Candidate}
+use Rattle.css_lex.specs.declared.values.Escape.{Escape}
+use Rattle.css_lex.specs.declared.values.Suffix.{Suffix}
 use Rattle.css_lex.specs.Source.{begins_with}
 use Rattle.css_lex.specs.LineKinds.{is_digit}
-
-abbrev pub is_octal_digit : ℕ → Bool
-is_octal_digit b = nat_le 48 b && nat_le b 55
-
-abbrev pub is_hexadecimal_digit : ℕ → Bool
-is_hexadecimal_digit b = is_digit b || ((nat_le 65 b && nat_le b 70) || (nat_le 97 b && nat_le b 102))
 
 -- The value of a digit: `0` to `9`, `A` to `F` or `a` to `f`.
 abbrev pub digit_value : ℕ → ℕ
 digit_value b = if nat_le 97 b then b - 87 else (if nat_le 65 b then b - 55 else b - 48)
 
+abbrev pub is_hexadecimal_digit : ℕ → Bool
+is_hexadecimal_digit b = is_digit b || ((nat_le 65 b && nat_le b 70) || (nat_le 97 b && nat_le b 102))
+
+-- A digit of a base of at most 16.
+abbrev pub is_digit_in : (base b : ℕ) → Bool
+is_digit_in base b = is_hexadecimal_digit b && nat_lt (digit_value b) base
+
+-- The digits of a base that a text begins with.
+abbrev pub digits_in : (base : ℕ) → List ℕ → List ℕ
+digits_in base text = take_while (is_digit_in base) text
+
 -- The value of digits in a base, the first one the greatest.
 abbrev pub value_in : (base : ℕ) (digits : List ℕ) → ℕ
 value_in base digits = fold (λ value b. base * value + digit_value b) 0 digits
 
--- A suffix (C99 6.4.4.1): its spelling, whether it has a `u`, and how many ranks from `int` on it leaves out.
-pub record Suffix : Type 0 where
-  pub spelling : List ℕ
-  pub unsigned : Bool
-  pub ranks : ℕ
+abbrev pub suffix : List ℕ → Bool → ℕ → List ℕ × Suffix
+suffix spelling unsigned ranks = (spelling, record { unsigned = unsigned; ranks = ranks })
 
-abbrev pub suffix : List ℕ → Bool → ℕ → Suffix
-suffix spelling unsigned ranks = record { spelling = spelling; unsigned = unsigned; ranks = ranks }
+-- What stands beside a spelling.
+abbrev pub suffix_in : List (List ℕ × Suffix) → (spelling : List ℕ) → Option Suffix
+suffix_in [] spelling = None
+suffix_in (s ∷ table) spelling = if bytes_eq s.0 spelling then Some s.1 else suffix_in table spelling
 
-abbrev pub suffixes : List Suffix
+-- The suffixes (C99 6.4.4.1), each with its spelling.
+abbrev pub suffixes : List (List ℕ × Suffix)
 suffixes =
     suffix [] false 0 ∷ suffix (codes "u") true 0 ∷ suffix (codes "U") true 0
     ∷ suffix (codes "l") false 1 ∷ suffix (codes "L") false 1 ∷ suffix (codes "ll") false 2 ∷ suffix (codes "LL") false 2
@@ -41,15 +49,8 @@ suffixes =
     ∷ suffix (codes "llu") true 2 ∷ suffix (codes "llU") true 2 ∷ suffix (codes "LLu") true 2 ∷ suffix (codes "LLU") true 2
     ∷ []
 
--- A type that a constant may have, with its rank from `int` on and its greatest value.
-pub record Candidate : Type 0 where
-  pub type : IntType
-  pub unsigned : Bool
-  pub rank : ℕ
-  pub greatest : ℕ
-
 abbrev pub candidate : IntType → Bool → ℕ → ℕ → Candidate
-candidate type unsigned rank greatest = record { type = type; unsigned = unsigned; rank = rank; greatest = greatest }
+candidate kind unsigned rank greatest = record { kind = kind; unsigned = unsigned; rank = rank; greatest = greatest }
 
 -- The types of constants in the order of C99 6.4.4.1. `int` and `long` have 32 bits.
 abbrev pub candidates : List Candidate
@@ -66,33 +67,32 @@ fits decimal suffix value candidate =
     nat_le suffix.ranks candidate.rank && (nat_le value candidate.greatest
     && (if candidate.unsigned then suffix.unsigned || not decimal else not suffix.unsigned))
 
+-- The first of some types that a constant may have.
+abbrev pub first_type : (decimal : Bool) (suffix : Suffix) (value : ℕ) → List Candidate → Option IntType
+first_type decimal suffix value [] = None
+first_type decimal suffix value (c ∷ candidates) =
+    if fits decimal suffix value c then Some c.kind else first_type decimal suffix value candidates
+
 -- An integer constant: its digits in a base, and what stands behind them, which has to be a suffix. Its type is the first
 -- that fits.
-abbrev pub constant_in : (decimal : Bool) (base : ℕ) (digits behind : List ℕ) → Option Kind
-constant_in decimal base digits behind =
+abbrev pub constant_in : (base : ℕ) (digits behind : List ℕ) → Option Kind
+constant_in base digits behind =
     let value = value_in base digits in
-    option_and_then
-    (λ s. option_map (λ c. Number c.type value) (find (fits decimal s value) candidates))
-    (find (λ s. bytes_eq s.spelling behind) suffixes)
+    option_and_then (λ s. option_map (λ t. Number t value) (first_type (base == 10) s value candidates)) (suffix_in suffixes behind)
 
--- The front of some digits, and what stands behind it, as a constant.
-abbrev pub number_in : (decimal : Bool) (base : ℕ) (is_digit_there : ℕ → Bool) (bytes : List ℕ) → Option Kind
-number_in decimal base is_digit_there bytes =
-    let digits = take_while is_digit_there bytes in
-    if length digits == 0 then None else constant_in decimal base digits (drop (length digits) bytes)
+-- The digits in front and what stands behind them, as a constant.
+abbrev pub number_in : (base : ℕ) (bytes : List ℕ) → Option Kind
+number_in base bytes =
+    let digits = digits_in base bytes in
+    if length digits == 0 then None else constant_in base digits (drop (length digits) bytes)
 
 -- An integer constant (C99 6.4.4.1): hexadecimal behind `0x` or `0X`, octal from another `0` on, else decimal.
 abbrev pub integer_constant : List ℕ → Option Kind
 integer_constant bytes =
-    if begins_with (codes "0x") bytes || begins_with (codes "0X") bytes then number_in false 16 is_hexadecimal_digit (drop 2 bytes)
-    else (if begins_with (codes "0") bytes then number_in false 8 is_octal_digit bytes
-    else number_in true 10 is_digit bytes)
+    if begins_with (codes "0x") bytes || begins_with (codes "0X") bytes then number_in 16 (drop 2 bytes)
+    else (if begins_with (codes "0") bytes then number_in 8 bytes else number_in 10 bytes)
 
--- The value of an escape (C99 6.4.4.4) and how many bytes it has behind the backslash.
-pub record Escape : Type 0 where
-  pub value : ℕ
-  pub size : ℕ
-
+-- An escape (C99 6.4.4.4): its value, and how many bytes it has behind the backslash.
 abbrev pub escape : ℕ → ℕ → Escape
 escape value size = record { value = value; size = size }
 
@@ -101,20 +101,23 @@ abbrev pub simple_escapes : List (ℕ × ℕ)
 simple_escapes =
     (39, 39) ∷ (34, 34) ∷ (63, 63) ∷ (92, 92) ∷ (97, 7) ∷ (98, 8) ∷ (102, 12) ∷ (110, 10) ∷ (114, 13) ∷ (116, 9) ∷ (118, 11) ∷ []
 
--- Digits as an escape of so many bytes, if there are any and their value is a byte's.
-abbrev pub numeric_escape : (base : ℕ) (digits : List ℕ) (size : ℕ) → Option Escape
-numeric_escape base digits size =
-    if (length digits == 0) || nat_lt 255 (value_in base digits) then None else Some (escape (value_in base digits) size)
+abbrev pub simple_escape : List (ℕ × ℕ) → ℕ → Option ℕ
+simple_escape [] b = None
+simple_escape (e ∷ escapes) b = if e.0 == b then Some e.1 else simple_escape escapes b
+
+-- Digits as an escape with so many bytes in front of them, if there are any and their value is a byte's.
+abbrev pub numeric_escape : (base before : ℕ) (digits : List ℕ) → Option Escape
+numeric_escape base before digits =
+    if (length digits == 0) || nat_lt 255 (value_in base digits) then None
+    else Some (escape (value_in base digits) (before + length digits))
 
 -- The escape that stands behind a backslash: a simple one, one to three octal digits, or `x` and hexadecimal digits.
 abbrev pub escape_at : List ℕ → Option Escape
 escape_at [] = None
 escape_at (b ∷ bytes) =
-    let octal = take 3 (take_while is_octal_digit (b ∷ bytes)) in
-    let hexadecimal = take_while is_hexadecimal_digit bytes in
-    if b == 120 then numeric_escape 16 hexadecimal (1 + length hexadecimal)
-    else (if is_octal_digit b then numeric_escape 8 octal (length octal)
-    else option_map (λ e. escape e.1 1) (find (λ e. e.0 == b) simple_escapes))
+    if b == 120 then numeric_escape 16 1 (digits_in 16 bytes)
+    else (if is_digit_in 8 b then numeric_escape 8 0 (take 3 (digits_in 8 (b ∷ bytes)))
+    else option_map (λ value. escape value 1) (simple_escape simple_escapes b))
 
 -- The values of the characters between two quotes, of which the first bytes belong to an escape. None where an escape is
 -- none or its value isn't a byte's.

@@ -44,7 +44,7 @@ impl LineKind {
 }
 
 /// The letters, underscores and digits that a text begins with.
-fn word_in_front(text: &[u8]) -> &[u8]
+pub(crate) fn word_in_front(text: &[u8]) -> &[u8]
     ensures { result.now ≡ first_word text.now }
 {
     let mut end = 0;
@@ -55,7 +55,7 @@ fn word_in_front(text: &[u8]) -> &[u8]
 }
 
 /// The text behind the white space that it begins with.
-fn without_blanks(text: &[u8]) -> &[u8]
+pub(crate) fn without_blanks(text: &[u8]) -> &[u8]
     ensures { result.now ≡ behind_blanks text.now }
 {
     let mut end = 0;

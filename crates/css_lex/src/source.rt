@@ -13,7 +13,7 @@ pub struct SourceByte {
 }
 
 /// The length of the splice that a text begins with, 0 where it begins with none.
-fn splice_at(text: &[u8]) -> usize
+pub(crate) fn splice_at(text: &[u8]) -> usize
     ensures value { result ≡ splice_length text.now }
     ensures within { result ≤ length text.now }
 {

@@ -1,0 +1,78 @@
+//! The tokens that stand for a macro's name.
+ghost use Rattle.std.specs.Prelude.{◌≡◌, IfOk};
+ghost use Rattle.css_base.specs.Tokens.{kind_of};
+ghost use Rattle.css_lex.specs.Macros.{IsPlain, same_kind};
+ghost use Rattle.css_lex.specs.MacroTokens.{plain_kind};
+
+use css_base::{Bytes, IntType, NoMemory, TokenKind};
+use std::alloc::Global;
+
+/// A token of a macro's replacement: what any token but a directive is.
+#[derive(Drop, Debug)]
+pub(crate) enum MacroToken {
+    /// An identifier or keyword.
+    Word(Bytes),
+    /// An integer constant (C99 6.4.4.1) with its type and value.
+    Number { kind: IntType, value: u64 },
+    /// A character constant with its value.
+    Character(u8),
+    /// A string, its escapes read.
+    Text(Bytes),
+    /// A punctuator (C99 6.4.6).
+    Punctuator(Bytes),
+}
+
+/// A copy of bytes.
+fn copied(alloc: Global, bytes: &Bytes) -> Result<Bytes, NoMemory>
+    ensures { IfOk result (λ copy. copy ≡ bytes.now) }
+{
+    Ok(Bytes::new(Vec::from_slice(alloc, bytes.as_slice())?))
+}
+
+impl MacroToken {
+    /// A token as a macro's token.
+    pub fn new(kind: TokenKind) -> MacroToken
+        requires { IsPlain (kind_of kind) }
+        ensures { plain_kind result ≡ kind_of kind }
+    {
+        match kind {
+            TokenKind::Word(bytes) => MacroToken::Word(bytes),
+            TokenKind::Number { kind, value } => MacroToken::Number { kind, value },
+            TokenKind::Character(byte) => MacroToken::Character(byte),
+            TokenKind::Text(bytes) => MacroToken::Text(bytes),
+            TokenKind::Punctuator(bytes) => MacroToken::Punctuator(bytes),
+            TokenKind::Directive(_) => unreachable!(),
+        }
+    }
+
+    /// The token that is put in the place of a macro's name. Its bytes are copied.
+    pub fn to_kind(&self, alloc: Global) -> Result<TokenKind, NoMemory>
+        ensures { IfOk result (λ kind. kind_of kind ≡ plain_kind self.now) }
+    {
+        Ok(match self {
+            MacroToken::Word(bytes) => TokenKind::Word(copied(alloc, bytes)?),
+            MacroToken::Number { kind, value } => TokenKind::Number {
+                kind: *kind,
+                value: *value,
+            },
+            MacroToken::Character(byte) => TokenKind::Character(*byte),
+            MacroToken::Text(bytes) => TokenKind::Text(copied(alloc, bytes)?),
+            MacroToken::Punctuator(bytes) => TokenKind::Punctuator(copied(alloc, bytes)?),
+        })
+    }
+
+    /// Whether two tokens are the same: of one kind with one value, however they are spelled.
+    pub fn is_same(&self, other: &MacroToken) -> bool
+        ensures { result ≡ same_kind (plain_kind self.now) (plain_kind other.now) }
+    {
+        match (self, other) {
+            (MacroToken::Word(a), MacroToken::Word(b)) => a.as_slice() == b.as_slice(),
+            (MacroToken::Number { kind: s, value: a }, MacroToken::Number { kind: t, value: b }) =>
+                *s == *t && *a == *b,
+            (MacroToken::Character(a), MacroToken::Character(b)) => *a == *b,
+            (MacroToken::Text(a), MacroToken::Text(b)) => a.as_slice() == b.as_slice(),
+            (MacroToken::Punctuator(a), MacroToken::Punctuator(b)) => a.as_slice() == b.as_slice(),
+            _ => false,
+        }
+    }
+}
