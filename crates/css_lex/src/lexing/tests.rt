@@ -83,7 +83,7 @@ fn check_refused(
         return Err("no rule".into());
     };
     assert!(rt;
-        fault.name == name && fault.line == Line::new(line),
+        fault.name == name && fault.line.number() == line,
         "at {text}"
     );
     Ok(())
@@ -271,7 +271,7 @@ fn places(rt: HostRuntime) -> Result<(), Fail> {
     ];
     assert!(rt; tokens.len() == wanted.len());
     for (token, (line, place, end)) in tokens.iter().zip(&wanted) {
-        assert!(rt; token.line == Line::new(*line) && token.place == *place && token.end == *end);
+        assert!(rt; token.line.number() == *line && token.place == *place && token.end == *end);
     }
     Ok(())
 }
