@@ -11,6 +11,8 @@ pub mod Cutting
 pub mod Shifting
 pub mod SpliceCuts
 pub mod Twice
+pub mod Numbering
+pub mod Listing
 pub mod MacroTables
 pub mod Levels
 pub mod Frames

@@ -7,6 +7,10 @@ pub mod Lexemes
 pub mod Values
 pub mod Macros
 pub mod MacroTokens
+pub mod Numbers
+pub mod Words
+pub mod ListedTokens
+pub mod Entries
 pub mod MacroTables
 pub mod Expansions
 pub mod Reading

@@ -9,6 +9,7 @@ mod expansion;
 mod laws;
 mod lexeme_class;
 mod line_kind;
+mod listed_token;
 mod macro_laws;
 mod macro_token;
 mod macros;
