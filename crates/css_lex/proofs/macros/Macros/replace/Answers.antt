@@ -14,7 +14,7 @@ replace_rest-requires c =
     let words = words_of c.args.self.now.words in
     let f = c.in-Some.frame in
     let m = subst (λ w. Replaces words (table_of c.args.self.now) (Word w) f) c.as_slice.ensures c.in-Some.ensures in
-    begun c.args.self.now c.in-Word.name c.new.result c.enter.new.self f m c.new.ensures.frames c.new.ensures.hidden c.in_ok-enter.ensures.frames c.in_ok-enter.ensures.hidden
+    begun c.args.self.now c.in-Word.name c.new-expansion.result c.enter.new.self f m c.new-expansion.ensures.frames c.new-expansion.ensures.hidden c.in_ok-enter.ensures.frames c.in_ok-enter.ensures.hidden
 
 pub returns-clause-tokens : goal.returns-clause-tokens
 returns-clause-tokens c =
@@ -22,7 +22,7 @@ returns-clause-tokens c =
     let table = table_of c.args.self.now in
     let f = c.in-Some.frame in
     let m = subst (λ w. Replaces words table (Word w) f) c.as_slice.ensures c.in-Some.ensures in
-    let one = c.in_ok-enter.ensures.frames ∙ ap (λ fs. fs ++ f ∷ []) c.new.ensures.frames in
+    let one = c.in_ok-enter.ensures.frames ∙ ap (λ fs. fs ++ f ∷ []) c.new-expansion.ensures.frames in
     let all = beginning words table c.in-Word.name c.enter.new.self.frames.items f m one in
     c.in_ok-replace_rest.ensures.tokens
     ∙ ap (λ out. lexemes c.args.tokens.now.items ++ placed c.args.span.now out) (all.0 ∙ ap (λ k. replacement table (kind_of k)) (sym c.in-Word.is))
@@ -33,7 +33,7 @@ returns-clause-token_count c =
     let table = table_of c.args.self.now in
     let f = c.in-Some.frame in
     let m = subst (λ w. Replaces words table (Word w) f) c.as_slice.ensures c.in-Some.ensures in
-    let one = c.in_ok-enter.ensures.frames ∙ ap (λ fs. fs ++ f ∷ []) c.new.ensures.frames in
+    let one = c.in_ok-enter.ensures.frames ∙ ap (λ fs. fs ++ f ∷ []) c.new-expansion.ensures.frames in
     let all = beginning words table c.in-Word.name c.enter.new.self.frames.items f m one in
     let counted = ap length (all.0 ∙ ap (λ k. replacement table (kind_of k)) (sym c.in-Word.is)) in
     omega (arith, c.in_ok-replace_rest.ensures.token_count, c.in_ok-count_name.ensures.tokens)
@@ -44,7 +44,7 @@ returns-clause-name_count c =
     let table = table_of c.args.self.now in
     let f = c.in-Some.frame in
     let m = subst (λ w. Replaces words table (Word w) f) c.as_slice.ensures c.in-Some.ensures in
-    let one = c.in_ok-enter.ensures.frames ∙ ap (λ fs. fs ++ f ∷ []) c.new.ensures.frames in
+    let one = c.in_ok-enter.ensures.frames ∙ ap (λ fs. fs ++ f ∷ []) c.new-expansion.ensures.frames in
     let all = beginning words table c.in-Word.name c.enter.new.self.frames.items f m one in
     let names = all.1 ∙ ap (λ k. replacement_names table (kind_of k)) (sym c.in-Word.is) in
     omega (arith, c.in_ok-replace_rest.ensures.name_count, c.in_ok-count_name.ensures.names)
@@ -55,7 +55,7 @@ returns-in_err-replace_rest-clause-too_many c =
     let table = table_of c.args.self.now in
     let f = c.in-Some.frame in
     let m = subst (λ w. Replaces words table (Word w) f) c.as_slice.ensures c.in-Some.ensures in
-    let one = c.in_ok-enter.ensures.frames ∙ ap (λ fs. fs ++ f ∷ []) c.new.ensures.frames in
+    let one = c.in_ok-enter.ensures.frames ∙ ap (λ fs. fs ++ f ∷ []) c.new-expansion.ensures.frames in
     let all = beginning words table c.in-Word.name c.enter.new.self.frames.items f m one in
     let counted = ap length (all.0 ∙ ap (λ k. replacement table (kind_of k)) (sym c.in-Word.is)) in
     let names = all.1 ∙ ap (λ k. replacement_names table (kind_of k)) (sym c.in-Word.is) in
