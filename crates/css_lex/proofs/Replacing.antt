@@ -151,10 +151,11 @@ next_listed macros frames f g old token named rest is before =
     let words = words_of macros.words in
     let known = (frames-parts words old.frames.items frames f before is.numbered).1 in
     let parts = and_parts (stands_for words f.number (name_of words f)) (list_all (is_listed words) f.rest.now) known in
-    let tokens = and_parts (is_listed words token) (list_all (is_listed words) g.rest.now) (ap (list_all (is_listed words)) (sym rest) ∙ parts.1) in
-    (tokens.0,
-    and_from (stands_for words g.number (name_of words g)) (list_all (is_listed words) g.rest.now)
-    (ap (λ n. stands_for words n (word_at words n)) named ∙ parts.0) tokens.1)
+    let tokens = and_parts (is_listed words token) (list_all (is_listed words) g.rest.now) (ap (list_all (is_listed words)) (sym rest) ∙ parts.1) in (
+      tokens.0,
+      and_from (stands_for words g.number (name_of words g)) (list_all (is_listed words) g.rest.now)
+          (ap (λ n. stands_for words n (word_at words n)) named ∙ parts.0) tokens.1,
+    )
 
 -- Nothing is hidden or shown by that.
 pub advanced : (macros : Macros) (frames : List Frame) (f g : Frame) (old new : Expansion) (token : ListedToken) → g.number ≡ f.number → f.rest.now ≡ token ∷ g.rest.now

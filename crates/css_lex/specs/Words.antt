@@ -1,6 +1,5 @@
 -- A set of words, whose places are the words' numbers.
 use Rattle.std.specs.Prelude.{◌≡◌, ℕ, List, ◌++◌, map, Vec}
-
 use Rattle.indexmap.specs.IndexSet.{IndexSet}
 
 abbrev pub words_of : {A S : Type 0} → IndexSet (Vec ℕ A) S → List (List ℕ)
