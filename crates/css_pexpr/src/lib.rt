@@ -1,0 +1,6 @@
+//! Reading expressions.
+#![tactic(auto)]
+
+mod level;
+
+pub use level::Level;
