@@ -1,1 +1,4 @@
+pub mod Frames
 pub mod Longest
+pub mod Reading
+pub mod Signs

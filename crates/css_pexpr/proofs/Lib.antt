@@ -1,0 +1,6 @@
+mod Caps
+mod Completeness
+mod Reached
+mod Runs
+mod Signs
+mod Types
