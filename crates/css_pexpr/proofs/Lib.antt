@@ -1,6 +1,9 @@
 mod Caps
 mod Completeness
+mod Holding
 mod Reached
 mod Runs
 mod Signs
+mod Soundness
 mod Types
+mod Validity

@@ -56,8 +56,9 @@ takes_type level frames = nat_le (wanted level frames) cast
 
 -- the first word of a type, behind a parenthesis
 abbrev pub begun : Manner → Stack → Option Specifier → Option State
+begun m frames None = None
 begun m (Group line ∷ frames) (Some s) = if takes_type m.level frames then Some (Types frames line (record { specifiers = s ∷ []; stars = [] })) else None
-begun m frames s = None
+begun m frames (Some s) = None
 
 -- a type behind which the parenthesis is closed
 abbrev pub ended : Manner → Stack → ℕ → TypeName → State
