@@ -4,7 +4,8 @@ use Rattle.std.specs.Prelude.{option_map, option_and_then}
 use Rattle.std.proofs.lemmas.Bool.{leb-true, le-leb, false_from_ne_true}
 use Rattle.css_tree.specs.Syntax.{Expression, Call, Name, Expressions, End, More}
 use Rattle.css_tree.specs.Heights.{height, height_of_arguments}
-use Rattle.css_pexpr.specs.Frames.{Node, capped, made_of, made_of_two, made_of_three, in_order, with_argument, call_of, called}
+use Rattle.css_pexpr.specs.Arguments.{in_order}
+use Rattle.css_pexpr.specs.Frames.{Node, capped, made_of, made_of_two, made_of_three, with_argument, call_of, called}
 
 pub capped_low : (most : ℕ) (e : Expression) → nat_le (height e) most ≡ true → capped most e ≡ Some e
 unfolding capped
@@ -109,8 +110,14 @@ pub called_capped : (most line other : ℕ) (name : List ℕ) (es : List Express
     → called most line (capped most (Name other name)) (capped_list most es) ≡ capped most (Call line name (in_order es))
 called_capped most line other name es = by (nat_le (height_of_arguments (in_order es)) most) refl
   where
+    named : (b : Bool) → nat_le 1 most ≡ b → call_of most line es (capped most (Name other name)) ≡ capped most (Call line name (in_order es))
+    named true e = ap (call_of most line es) (capped_low most (Name other name) e)
+    named false e =
+        ap (call_of most line es) (capped_high most (Name other name) e)
+        ∙ sym (capped_high most (Call line name (in_order es)) (higher most 1 (height (Call line name (in_order es))) (omega arith) e))
+
     by : (b : Bool) → nat_le (height_of_arguments (in_order es)) most ≡ b → called most line (capped most (Name other name)) (capped_list most es) ≡ capped most (Call line name (in_order es))
-    by true e = ap (called most line (capped most (Name other name))) (list_low most es e) ∙ made_of_capped most (call_of line es) (Name other name) (omega arith)
+    by true e = ap (called most line (capped most (Name other name))) (list_low most es e) ∙ named (nat_le 1 most) refl
     by false e =
         ap (called most line (capped most (Name other name))) (list_high most es e)
         ∙ sym (capped_high most (Call line name (in_order es)) (higher most (height_of_arguments (in_order es)) (height (Call line name (in_order es))) (omega arith) e))

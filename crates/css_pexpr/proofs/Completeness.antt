@@ -18,8 +18,10 @@ use Rattle.css_pexpr.specs.declared.follow.Joint.TheVariants as joints
 use Rattle.css_pexpr.specs.declared.follow.Follow.TheVariants as follows
 use Rattle.css_base.specs.declared.int_type.IntType.TheVariants as types
 use Rattle.css_pexpr.specs.Signs.{lead_text, lead_spelled, specifier_of}
-use Rattle.css_pexpr.specs.Frames.{capped, made_of, Operand, operand, Frame, Pre, Casting, Infix, Otherwise, Assigning, Sequence, Group, Element, Question, Passing, Stack, operand_level, wanted, prefixed, Reduced, reduce, in_order, with_argument, called}
-use Rattle.css_pexpr.specs.Reading.{State, Wants, Has, Types, Manner, takes_type, ended, led, begun, named, step, step_wanting, followed, joined, grouped, indexed, run}
+use Rattle.css_pexpr.specs.Arguments.{in_order}
+use Rattle.css_pexpr.specs.Frames.{capped, made_of, Operand, operand, Frame, Pre, Casting, Infix, Otherwise, Assigning, Sequence, Group, Element, Question, Passing, Stack, operand_level, wanted, prefixed, Reduced, reduce, with_argument, called}
+use Rattle.css_pexpr.specs.declared.manner.Manner.{Manner}
+use Rattle.css_pexpr.specs.Reading.{State, Wants, Has, Types, takes_type, ended, led, begun, named, step, step_wanting, followed, joined, grouped, indexed, run}
 use Rattle.css_pexpr.proofs.Signs.{unary_found, increment_found, decrement_found, open_found, close_found, name_no_sizeof, sizeof_keyword}
 use Rattle.css_pexpr.proofs.Caps.{made_of_capped, made_of_two_capped, made_of_three_capped, capped_list, prepend, in_order-prepend, prepend-last, no_arguments, with_argument_capped, called_capped}
 use Rattle.css_pexpr.proofs.Runs.{step_at_wanting, behind, one, goes, first_stays, level_bounds, operand_level_bounds}

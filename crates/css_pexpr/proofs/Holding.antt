@@ -11,7 +11,8 @@ use Rattle.css_pexpr.specs.declared.prefix.Prefix.{Prefix}
 use Rattle.css_pexpr.specs.declared.prefix.Prefix.TheVariants as prefixes
 use Rattle.css_pexpr.specs.Signs.{prefix_text}
 use Rattle.css_pexpr.specs.Frames.{Node, capped, made_of, made_of_two, Operand, operand, Frame, Pre, Casting, Infix, Otherwise, Assigning, Sequence, Group, Element, Question, Passing, Stack, is_open, frame_level, frame_line, frame_node, operand_level, wanted, applied, prefixed, reduce}
-use Rattle.css_pexpr.specs.Reading.{State, Wants, Has, Types, Manner, takes_type, run}
+use Rattle.css_pexpr.specs.declared.manner.Manner.{Manner}
+use Rattle.css_pexpr.specs.Reading.{State, Wants, Has, Types, takes_type, run}
 use Rattle.css_pexpr.proofs.Caps.{made_of_capped, made_of_two_capped, made_of_three_capped, capped_list, prepend}
 use Rattle.css_pexpr.proofs.Runs.{first_stays, operand_level_bounds, level_bounds}
 use Rattle.css_pexpr.proofs.Reached.{Reached}

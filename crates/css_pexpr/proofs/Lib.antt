@@ -5,5 +5,6 @@ mod Reached
 mod Runs
 mod Signs
 mod Soundness
+mod Stacking
 mod Types
 mod Validity

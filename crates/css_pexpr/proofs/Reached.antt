@@ -11,7 +11,8 @@ use Rattle.css_pexpr.specs.declared.follow.Joint.TheVariants as joints
 use Rattle.css_pexpr.specs.declared.follow.Follow.TheVariants as follows
 use Rattle.css_pexpr.specs.Signs.{joint_text, own_level, left_level, reduce_level}
 use Rattle.css_pexpr.specs.Frames.{Node, capped, made_of_two, Operand, operand, Frame, Otherwise, Group, Element, Question, Passing, Stack, is_open, frame_level, frame_line, frame_node, wanted, Reduced, reduce, joint_frame}
-use Rattle.css_pexpr.specs.Reading.{State, Wants, Has, Manner, step, joined, divided, run}
+use Rattle.css_pexpr.specs.declared.manner.Manner.{Manner}
+use Rattle.css_pexpr.specs.Reading.{State, Wants, Has, step, joined, divided, run}
 use Rattle.css_pexpr.proofs.Caps.{made_of_two_capped}
 use Rattle.css_pexpr.proofs.Runs.{behind, one, goes, first_stays, reduce_pop, pops_yes, stays, joints_apart, reduce_level_bounds, joined_goes}
 

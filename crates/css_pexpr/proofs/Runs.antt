@@ -16,7 +16,8 @@ use Rattle.css_pexpr.specs.declared.follow.Follow.{Follow}
 use Rattle.css_pexpr.specs.declared.follow.Follow.TheVariants as follows
 use Rattle.css_pexpr.specs.Signs.{follow_text, joint_text, own_level, left_level, reduce_level}
 use Rattle.css_pexpr.specs.Frames.{Operand, operand, Frame, Pre, Casting, Infix, Otherwise, Assigning, Sequence, Group, Element, Question, Passing, Stack, is_open, frame_level, operand_level, wanted, applied, pops, Reduced, reduce, is_closed, joint_frame}
-use Rattle.css_pexpr.specs.Reading.{State, Wants, Has, Types, Manner, step, step_wanting, step_having, step_type, followed, joined, run}
+use Rattle.css_pexpr.specs.declared.manner.Manner.{Manner}
+use Rattle.css_pexpr.specs.Reading.{State, Wants, Has, Types, step, step_wanting, step_having, step_type, followed, joined, run}
 use Rattle.css_pexpr.proofs.Signs.{follow_found}
 
 -- ---- runs

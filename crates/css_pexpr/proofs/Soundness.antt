@@ -24,8 +24,10 @@ use Rattle.css_pexpr.specs.declared.follow.Joint.TheVariants as joints
 use Rattle.css_pexpr.specs.declared.follow.Follow.{Follow}
 use Rattle.css_pexpr.specs.declared.follow.Follow.TheVariants as follows
 use Rattle.css_pexpr.specs.Signs.{joint_text, follow_text, follow_spelled, lead_spelled, specifier_of, qualifier_spelled, own_level, left_level, reduce_level}
-use Rattle.css_pexpr.specs.Frames.{Node, capped, made_of, made_of_two, in_order, with_argument, called, Operand, operand, Frame, Pre, Casting, Infix, Otherwise, Assigning, Sequence, Group, Element, Question, Passing, Stack, is_open, frame_level, frame_node, wanted, applied, pops, Reduced, reduce, joint_frame}
-use Rattle.css_pexpr.specs.Reading.{State, Wants, Has, Types, Manner, with_specifier, with_star, with_qualifier, at_last, takes_type, begun, ended, type_word, type_mark, step_type, led, named, step_word, step_wanting, joined, divided, grouped, indexed, followed, step_having, step, run}
+use Rattle.css_pexpr.specs.Arguments.{in_order}
+use Rattle.css_pexpr.specs.Frames.{Node, capped, made_of, made_of_two, with_argument, called, Operand, operand, Frame, Pre, Casting, Infix, Otherwise, Assigning, Sequence, Group, Element, Question, Passing, Stack, is_open, frame_level, frame_node, wanted, applied, pops, Reduced, reduce, joint_frame}
+use Rattle.css_pexpr.specs.declared.manner.Manner.{Manner}
+use Rattle.css_pexpr.specs.Reading.{State, Wants, Has, Types, with_specifier, with_star, with_qualifier, at_last, takes_type, begun, ended, type_word, type_mark, step_type, led, named, step_word, step_wanting, joined, divided, grouped, indexed, followed, step_having, step, run}
 use Rattle.css_pexpr.proofs.Signs.{follow_token, lead_token, lead_no_sizeof, specifier_token, qualifier_token}
 use Rattle.css_pexpr.proofs.Caps.{made_of_capped, made_of_two_capped, capped_list, prepend, in_order-prepend, prepend-last, no_arguments, no_arguments_so, with_argument_capped, called_capped}
 use Rattle.css_pexpr.proofs.Runs.{reduce_pop, reduce_stop, operand_level_bounds, level_bounds}

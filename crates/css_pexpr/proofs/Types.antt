@@ -11,7 +11,8 @@ use Rattle.css_tree.specs.Words.{specifier_text, specifier_kind, qualifier_text,
 use Rattle.css_pexpr.specs.Signs.{specifier_of, qualifier_spelled}
 use Rattle.css_pexpr.specs.declared.prefix.Prefix.TheVariants as prefixes
 use Rattle.css_pexpr.specs.Frames.{Frame, Pre, Group, Stack}
-use Rattle.css_pexpr.specs.Reading.{State, Wants, Types, Manner, with_specifier, with_star, with_qualifier, at_last, takes_type, begun, ended, named, step, step_wanting, step_type, run}
+use Rattle.css_pexpr.specs.declared.manner.Manner.{Manner}
+use Rattle.css_pexpr.specs.Reading.{State, Wants, Types, with_specifier, with_star, with_qualifier, at_last, takes_type, begun, ended, named, step, step_wanting, step_type, run}
 use Rattle.css_pexpr.proofs.Signs.{specifier_keyword, specifier_no_sizeof, specifier_read, qualifier_found}
 use Rattle.css_pexpr.proofs.Runs.{step_at_wanting, one, goes}
 

@@ -25,7 +25,8 @@ use Rattle.css_pexpr.specs.declared.follow.Follow.{Follow}
 use Rattle.css_pexpr.specs.declared.follow.Follow.TheVariants as follows
 use Rattle.css_pexpr.specs.Signs.{prefix_text, lead_text, follow_text, follow_spelled, lead_spelled, specifier_of, qualifier_spelled, reduce_level}
 use Rattle.css_pexpr.specs.Frames.{Node, capped, made_of, called, Operand, operand, Frame, Pre, Casting, Infix, Otherwise, Assigning, Sequence, Group, Element, Question, Passing, Stack, wanted, Reduced, reduce}
-use Rattle.css_pexpr.specs.Reading.{State, Wants, Has, Types, Manner, with_specifier, with_star, with_qualifier, at_last, takes_type, begun, ended, type_word, type_mark, step_type, led, named, step_word, step_wanting, followed, step_having, step, run}
+use Rattle.css_pexpr.specs.declared.manner.Manner.{Manner}
+use Rattle.css_pexpr.specs.Reading.{State, Wants, Has, Types, with_specifier, with_star, with_qualifier, at_last, takes_type, begun, ended, type_word, type_mark, step_type, led, named, step_word, step_wanting, followed, step_having, step, run}
 use Rattle.css_pexpr.proofs.Signs.{follow_token, lead_token, lead_no_sizeof, specifier_token, qualifier_token}
 use Rattle.css_pexpr.proofs.Caps.{made_of_capped, capped_list, no_arguments, no_arguments_so, called_capped}
 use Rattle.css_pexpr.proofs.Types.{none_left}

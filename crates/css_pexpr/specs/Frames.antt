@@ -1,8 +1,9 @@
 -- What was read of an expression and waits for what follows.
-use Rattle.std.specs.Prelude.{ℕ, ◌+◌, List, [], ◌∷◌, ◌++◌, Bool, true, false, Option, Some, None, option_map, option_and_then, nat_le, if◌then◌else◌}
+use Rattle.std.specs.Prelude.{ℕ, ◌+◌, max, List, [], ◌∷◌, ◌++◌, Bool, true, false, Option, Some, None, option_map, option_and_then, nat_le, if◌then◌else◌}
 use Rattle.css_tree.specs.declared.operators.BinaryOperator.{BinaryOperator}
 use Rattle.css_tree.specs.declared.operators.AssignOperator.{AssignOperator}
-use Rattle.css_tree.specs.Syntax.{TypeName, Expression, Comma, Assign, Conditional, Binary, Cast, PreIncrement, PreDecrement, Unary, SizeofExpression, Index, PostIncrement, PostDecrement, Call, Name, Expressions, End, More}
+use Rattle.css_tree.specs.Syntax.{TypeName, Expression, Comma, Assign, Conditional, Binary, Cast, PreIncrement, PreDecrement, Unary, SizeofExpression, Index, PostIncrement, PostDecrement, Call, Name}
+use Rattle.css_pexpr.specs.Arguments.{in_order}
 use Rattle.css_tree.specs.Expressions.{level_of, expr, assign, cond, cast, unary, postfix}
 use Rattle.css_tree.specs.Heights.{height}
 use Rattle.css_pexpr.specs.declared.prefix.Prefix.{Prefix}
@@ -29,20 +30,16 @@ made_of_two most make a b = option_and_then (λ x. made_of most (make x) b) a
 abbrev pub made_of_three : ℕ → (Expression → Expression → Expression → Expression) → Node → Node → Node → Node
 made_of_three most make a b c = option_and_then (λ x. made_of_two most (make x) b c) a
 
--- arguments in order
-abbrev pub in_order : List Expression → Expressions
-in_order [] = End
-in_order (e ∷ es) = More e (in_order es)
-
 abbrev pub with_argument : Option (List Expression) → Node → Option (List Expression)
 with_argument before e = option_and_then (λ es. option_map (λ x. es ++ x ∷ []) e) before
 
-abbrev pub call_of : ℕ → List Expression → Expression → Expression
-call_of line arguments (Name other name) = Call line name (in_order arguments)
-call_of line arguments e = e
+-- a call of a name
+abbrev pub call_of : ℕ → ℕ → List Expression → Node → Node
+call_of most line es (Some (Name other name)) = capped most (Call line name (in_order es))
+call_of most line es callee = None
 
 abbrev pub called : ℕ → ℕ → Node → Option (List Expression) → Node
-called most line callee arguments = option_and_then (λ es. made_of most (call_of line es) callee) arguments
+called most line callee arguments = option_and_then (λ es. call_of most line es callee) arguments
 
 -- ---- frames
 
@@ -169,3 +166,32 @@ joint_frame joints.Comma line left = Sequence line left
 joint_frame (joints.Assign op) line left = Assigning line left op
 joint_frame joints.Question line left = Question line left
 joint_frame (joints.Binary op) line left = Infix line left op
+
+-- ---- trees before they are put together
+
+-- an expression under a node that is kept
+abbrev pub under : ℕ → Node → Option Expression
+under most a = option_and_then (λ x. if nat_le (1 + height x) most then Some x else None) a
+
+-- two and three expressions under a node that is kept
+pub record Two : Type 0 where
+  pub first : Expression
+  pub second : Expression
+
+pub record Three : Type 0 where
+  pub first : Expression
+  pub second : Expression
+  pub third : Expression
+
+abbrev pub under_two : ℕ → Node → Node → Option Two
+under_two most a b =
+    option_and_then (λ x. option_and_then (λ y. if nat_le (1 + max (height x) (height y)) most then Some (record { first = x; second = y }) else None) b) a
+
+abbrev pub under_three : ℕ → Node → Node → Node → Option Three
+under_three most a b c =
+    option_and_then (λ x. option_and_then (λ y. option_and_then (λ z. if nat_le (1 + max (height x) (max (height y) (height z))) most then Some (record { first = x; second = y; third = z }) else None) c) b) a
+
+-- how many of the frames have to be closed
+abbrev pub open_frames : Stack → ℕ
+open_frames [] = 0
+open_frames (f ∷ frames) = if is_open f then open_frames frames + 1 else open_frames frames

@@ -3,12 +3,12 @@ use Rattle.std.specs.Prelude.{ℕ, ◌+◌, List, [], ◌∷◌, ◌++◌, codes
 use Rattle.css_base.specs.declared.int_type.IntType.TheVariants as types
 use Rattle.css_base.specs.Tokens as tokens
 use Rattle.css_base.specs.Tokens.{Kind, Lexeme, At}
-use Rattle.css_tree.specs.declared.scope.Scope.{Scope}
 use Rattle.css_tree.specs.declared.words.Specifier.{Specifier}
 use Rattle.css_tree.specs.declared.words.Qualifier.{Qualifier}
 use Rattle.css_tree.specs.Syntax.{Stars, TypeName, SizeofType, Index, PostIncrement, PostDecrement, Name, Number, Text}
 use Rattle.css_tree.specs.Words.{is_keyword}
 use Rattle.css_tree.specs.Expressions.{expr, assign, cond, cast, unary, postfix}
+use Rattle.css_pexpr.specs.declared.manner.Manner.{Manner}
 use Rattle.css_pexpr.specs.declared.prefix.Prefix.TheVariants as prefixes
 use Rattle.css_pexpr.specs.declared.prefix.Lead.{Lead}
 use Rattle.css_pexpr.specs.declared.prefix.Lead.TheVariants as leads
@@ -25,12 +25,6 @@ pub data State : Type 0 where
   Wants : (stack : Stack) → State
   Has : (stack : Stack) (is_name : Bool) (x : Operand) → State
   Types : (stack : Stack) (line : ℕ) (type : TypeName) → State
-
--- How is read: where the expression stands, its level, and the most levels that are kept.
-pub record Manner : Type 0 where
-  pub scope : Scope
-  pub level : ℕ
-  pub most : ℕ
 
 -- ---- types
 

@@ -1,8 +1,16 @@
 //! Reading expressions.
 #![tactic(auto)]
 
+mod build;
+mod call;
+mod children;
+mod family;
 mod follow;
+mod frame;
 mod level;
+mod manner;
+mod node;
 mod prefix;
+mod stack;
 
 pub use level::Level;

@@ -1,0 +1,104 @@
+//! What was read and waits for what follows.
+
+use crate::follow::level_of;
+use crate::node::{Arguments, Node};
+use crate::prefix::Prefix;
+use css_base::Line;
+use css_tree::{AssignOperator, BinaryOperator, TypeName};
+
+/// An operand that was read, with its level and the line of its first token.
+#[derive(Drop)]
+pub(crate) struct Operand {
+    pub level: u8,
+    pub line: Line,
+    pub node: Node,
+}
+
+/// What waits for an operand. The line is that of the first token of what it makes.
+#[derive(Drop)]
+pub(crate) enum Frame {
+    Prefix {
+        line: Line,
+        operator: Prefix,
+    },
+    /// A type in parentheses.
+    Cast {
+        line: Line,
+        to: TypeName,
+    },
+    Infix {
+        line: Line,
+        left: Node,
+        operator: BinaryOperator,
+    },
+    /// `condition ? first :`
+    Otherwise {
+        line: Line,
+        condition: Node,
+        first: Node,
+    },
+    Assign {
+        line: Line,
+        place: Node,
+        operator: AssignOperator,
+    },
+    /// `left ,`
+    Sequence {
+        line: Line,
+        left: Node,
+    },
+    /// `(`
+    Group {
+        line: Line,
+    },
+    /// `array [`
+    Element {
+        line: Line,
+        array: Node,
+    },
+    /// `condition ?`
+    Question {
+        line: Line,
+        condition: Node,
+    },
+    /// `callee (`, and the arguments with a comma behind each.
+    Call {
+        line: Line,
+        callee: Node,
+        arguments: Option<Arguments>,
+    },
+}
+
+impl Frame {
+    ghost use Rattle.std.specs.Prelude.{◌≡◌};
+    ghost use Rattle.css_pexpr.specs.Frames.{is_open, frame_level};
+    ghost use Rattle.css_pexpr.specs.Shapes.{frame};
+
+    /// Whether it has to be closed.
+    pub(crate) fn is_open(&self) -> bool
+        ensures { result ≡ is_open (frame self.now) }
+    {
+        matches!(
+            self,
+            Frame::Group { .. }
+                | Frame::Element { .. }
+                | Frame::Question { .. }
+                | Frame::Call { .. }
+        )
+    }
+
+    /// The level of what it makes.
+    pub(crate) fn level(&self) -> u8
+        ensures { result ≡ frame_level (frame self.now) }
+    {
+        match self {
+            Frame::Prefix { .. } => 14,
+            Frame::Cast { .. } => 13,
+            Frame::Infix { operator, .. } => level_of(*operator),
+            Frame::Otherwise { .. } | Frame::Question { .. } => 2,
+            Frame::Assign { .. } => 1,
+            Frame::Sequence { .. } => 0,
+            Frame::Group { .. } | Frame::Element { .. } | Frame::Call { .. } => 15,
+        }
+    }
+}

@@ -1,0 +1,66 @@
+//! The frames behind which an operand is read.
+ghost use Rattle.std.specs.Prelude.{◌≡◌, []};
+ghost use Rattle.css_pexpr.specs.Frames.{open_frames};
+ghost use Rattle.css_pexpr.specs.Shapes.{onto};
+
+use crate::frame::Frame;
+use std::alloc::{AllocError, Global};
+
+/// Frames, of which the last one is next.
+#[derive(Drop)]
+pub(crate) struct Stack {
+    pub frames: Vec<Frame>,
+    /// How many of them have to be closed.
+    pub unclosed: usize,
+    ghost counted: { unclosed ≡ open_frames (onto frames.items []) },
+}
+
+impl Stack {
+    ghost use Rattle.std.specs.Prelude.{◌≡◌, [], ◌∷◌, OnOk, IfSome, IfNone};
+    ghost use Rattle.css_pexpr.specs.Frames.{is_closed};
+    ghost use Rattle.css_pexpr.specs.Shapes.{frame};
+    ghost use Rattle.css_pexpr.specs.Stacks.{stack};
+
+    /// No frames. Takes no memory.
+    pub(crate) fn new(alloc: Global) -> Stack
+        ensures { stack result ≡ [] }
+    {
+        Stack {
+            frames: Vec::new(alloc),
+            unclosed: 0,
+        }
+    }
+
+    /// Whether nothing has to be closed.
+    pub(crate) fn is_closed(&self) -> bool
+        ensures { result ≡ is_closed (stack self.now) }
+    {
+        self.unclosed == 0
+    }
+
+    /// One more frame.
+    pub(crate) fn push(&mut self, next: Frame) -> Result<(), AllocError>
+        ensures { OnOk result (stack self.new ≡ frame next ∷ stack self.old) }
+    {
+        let opens = next.is_open();
+        self.frames.push(next)?;
+        let count = self.frames.len();
+        if opens {
+            prove!(self.unclosed < count);
+            self.unclosed += 1;
+        }
+        Ok(())
+    }
+
+    /// Takes the last frame.
+    pub(crate) fn pop(&mut self) -> Option<Frame>
+        ensures some { IfSome result (λ f. stack self.old ≡ frame f ∷ stack self.new) }
+        ensures none { IfNone result ((stack self.old ≡ []) × (stack self.new ≡ [])) }
+    {
+        let last = self.frames.pop()?;
+        if last.is_open() {
+            self.unclosed -= 1;
+        }
+        Some(last)
+    }
+}
