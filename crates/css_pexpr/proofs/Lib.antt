@@ -1,5 +1,6 @@
 mod Caps
 mod Completeness
+mod Families
 mod Holding
 mod Reached
 mod Runs
