@@ -3,6 +3,7 @@ mod Completeness
 mod Families
 mod Holding
 mod Reached
+mod Rows
 mod Runs
 mod Signs
 mod Soundness

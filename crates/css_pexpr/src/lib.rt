@@ -1,6 +1,7 @@
 //! Reading expressions.
 #![tactic(auto)]
 
+mod apply;
 mod build;
 mod call;
 mod children;
