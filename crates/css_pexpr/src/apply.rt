@@ -1,11 +1,12 @@
 //! Frames and their operands.
 ghost use Rattle.std.specs.Prelude.{◌≡◌, false, IfOk};
-ghost use Rattle.css_pexpr.specs.Frames.{is_open, applied, reduce};
-ghost use Rattle.css_pexpr.specs.Shapes.{frame, operand_of};
+ghost use Rattle.css_pexpr.specs.Frames.{is_open, applied, frame_node, reduce};
+ghost use Rattle.css_pexpr.specs.Shapes.{frame, node, operand_of};
 ghost use Rattle.css_pexpr.specs.Stacks.{stack};
 
 use crate::build::{assigned, binary, cast, conditional, prefixed, sequence};
 use crate::frame::{Frame, Operand};
+use crate::node::Node;
 use crate::stack::Stack;
 use css_base::NoMemory;
 use std::alloc::Global;
@@ -21,52 +22,40 @@ pub(crate) fn apply(
     ensures { IfOk result (λ x. operand_of x ≡ applied most (frame last) (operand_of operand)) }
 {
     let level = last.level();
-    let inner = operand.node;
+    let first = last.line();
+    let node = node_of(alloc, most, last, operand.node)?;
+    Ok(Operand {
+        level,
+        line: first,
+        node,
+    })
+}
+
+/// The node that a frame that isn't open makes of its operand's.
+fn node_of(alloc: Global, most: u32, last: Frame, inner: Node) -> Result<Node, NoMemory>
+    requires closed { is_open (frame last) ≡ false }
+    ensures { IfOk result (λ n. node n ≡ frame_node most (frame last) (node inner)) }
+{
     match last {
-        Frame::Prefix { line, operator } => {
-            let node = prefixed(alloc, most, operator, line, inner)?;
-            Ok(Operand { level, line, node })
-        }
-        Frame::Cast { line, to } => {
-            let node = cast(alloc, most, line, to, inner)?;
-            Ok(Operand { level, line, node })
-        }
+        Frame::Prefix { line, operator } => prefixed(alloc, most, operator, line, inner),
+        Frame::Cast { line, to } => cast(alloc, most, line, to, inner),
         Frame::Infix {
             line,
             left,
             operator,
-        } => {
-            let node = binary(alloc, most, line, operator, left, inner)?;
-            Ok(Operand { level, line, node })
-        }
+        } => binary(alloc, most, line, operator, left, inner),
         Frame::Otherwise {
             line,
             condition,
             first,
-        } => {
-            let node = conditional(alloc, most, line, condition, first, inner)?;
-            Ok(Operand { level, line, node })
-        }
+        } => conditional(alloc, most, line, condition, first, inner),
         Frame::Assign {
             line,
             place,
             operator,
-        } => {
-            let node = assigned(alloc, most, line, operator, place, inner)?;
-            Ok(Operand { level, line, node })
-        }
-        Frame::Sequence { line, left } => {
-            let node = sequence(alloc, most, line, left, inner)?;
-            Ok(Operand { level, line, node })
-        }
-        Frame::Group { line }
-        | Frame::Element { line, .. }
-        | Frame::Question { line, .. }
-        | Frame::Call { line, .. } => Ok(Operand {
-            level,
-            line,
-            node: inner,
-        }),
+        } => assigned(alloc, most, line, operator, place, inner),
+        Frame::Sequence { line, left } => sequence(alloc, most, line, left, inner),
+        _ => Ok(inner),
     }
 }
 

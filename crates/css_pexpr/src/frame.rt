@@ -71,7 +71,7 @@ pub(crate) enum Frame {
 
 impl Frame {
     ghost use Rattle.std.specs.Prelude.{◌≡◌};
-    ghost use Rattle.css_pexpr.specs.Frames.{is_open, frame_level};
+    ghost use Rattle.css_pexpr.specs.Frames.{is_open, frame_level, frame_line};
     ghost use Rattle.css_pexpr.specs.Shapes.{frame};
 
     /// Whether it has to be closed.
@@ -85,6 +85,24 @@ impl Frame {
                 | Frame::Question { .. }
                 | Frame::Call { .. }
         )
+    }
+
+    /// The line of the first token of what it makes.
+    pub(crate) fn line(&self) -> Line
+        ensures { result ≡ frame_line (frame self.now) }
+    {
+        match self {
+            Frame::Prefix { line, .. }
+            | Frame::Cast { line, .. }
+            | Frame::Infix { line, .. }
+            | Frame::Otherwise { line, .. }
+            | Frame::Assign { line, .. }
+            | Frame::Sequence { line, .. }
+            | Frame::Group { line }
+            | Frame::Element { line, .. }
+            | Frame::Question { line, .. }
+            | Frame::Call { line, .. } => *line,
+        }
     }
 
     /// The level of what it makes.
