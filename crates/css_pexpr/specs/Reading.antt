@@ -99,11 +99,15 @@ step_wanting m frames line (tokens.Directive words) = None
 
 -- ---- behind an operand
 
+-- an operator, where its left operand and the frames take it
+abbrev pub taken : Manner → Joint → Stack → Operand → Option State
+taken m joint frames x =
+    if nat_le (left_level joint) x.level && nat_le (wanted m.level frames) (own_level joint) then Some (Wants (joint_frame joint x.line x.node ∷ frames)) else None
+
 -- a joint behind what was put together: the comma of a call's arguments, or an operator
 abbrev pub joined : Manner → Joint → Stack → Operand → Option State
 joined m joints.Comma (Passing line callee before ∷ frames) x = Some (Wants (Passing line callee (with_argument before x.node) ∷ frames))
-joined m joint frames x =
-    if nat_le (left_level joint) x.level && nat_le (wanted m.level frames) (own_level joint) then Some (Wants (joint_frame joint x.line x.node ∷ frames)) else None
+joined m joint frames x = taken m joint frames x
 
 -- a colon, a parenthesis and a bracket behind what was put together
 abbrev pub divided : Stack → Operand → Option State

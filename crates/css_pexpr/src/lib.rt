@@ -8,10 +8,16 @@ mod children;
 mod family;
 mod follow;
 mod frame;
+mod having;
 mod level;
 mod manner;
 mod node;
 mod prefix;
 mod stack;
+mod state;
+mod step;
+mod typing;
+mod wanting;
+mod words;
 
 pub use level::Level;
