@@ -1,10 +1,14 @@
+mod Balance
 mod Caps
 mod Completeness
 mod Families
 mod Holding
+mod Longest
+mod Parts
 mod Reached
 mod Rows
 mod Runs
+mod Search
 mod Signs
 mod Soundness
 mod Stacking

@@ -8,16 +8,15 @@ mod children;
 mod family;
 mod follow;
 mod frame;
-mod having;
+mod laws;
 mod level;
 mod manner;
 mod node;
 mod prefix;
 mod stack;
 mod state;
-mod step;
 mod typing;
-mod wanting;
 mod words;
 
+pub use laws::{balanced_brackets, one_expression};
 pub use level::Level;
