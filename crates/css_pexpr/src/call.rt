@@ -42,12 +42,7 @@ pub(crate) fn with_argument(
 
 /// A call of the name that was read, with these arguments.
 #[tactic(auto, unfolding(crate::specs::Frames::capped))]
-pub(crate) fn called(
-    most: u32,
-    line: Line,
-    callee: Node,
-    given: Option<Arguments>,
-) -> Node
+pub(crate) fn called(most: u32, line: Line, callee: Node, given: Option<Arguments>) -> Node
     ensures { node result ≡ called most line (node callee) (arguments given) }
 {
     let Some(given) = given else {

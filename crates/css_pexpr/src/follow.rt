@@ -218,5 +218,8 @@ impl Joint {
 pub(crate) fn follow_spelled(bytes: &[u8]) -> Option<Follow>
     ensures { result ≡ follow_spelled bytes.now }
 {
-    FOLLOWS.iter().copied().find(|follow| follow.text() == bytes)
+    FOLLOWS
+        .iter()
+        .copied()
+        .find(|follow| follow.text() == bytes)
 }

@@ -66,11 +66,7 @@ const SPECIFIERS: [Specifier; 14] = [
 ];
 
 /// The words behind a star.
-const QUALIFIERS: [Qualifier; 3] = [
-    Qualifier::Const,
-    Qualifier::Volatile,
-    Qualifier::Restrict,
-];
+const QUALIFIERS: [Qualifier; 3] = [Qualifier::Const, Qualifier::Volatile, Qualifier::Restrict];
 
 /// Whether a word is a keyword.
 pub(crate) fn is_keyword(bytes: &[u8]) -> bool
