@@ -5,7 +5,7 @@ use Rattle.css_base.specs.Tokens as tokens
 use Rattle.css_base.specs.Tokens.{Kind, Lexeme, At}
 use Rattle.css_tree.specs.declared.words.Specifier.{Specifier}
 use Rattle.css_tree.specs.declared.words.Qualifier.{Qualifier}
-use Rattle.css_tree.specs.Syntax.{Stars, TypeName, SizeofType, Index, PostIncrement, PostDecrement, Name, Number, Text}
+use Rattle.css_tree.specs.Syntax.{Stars, TypeName, Expression, SizeofType, Index, PostIncrement, PostDecrement, Name, Number, Text}
 use Rattle.css_tree.specs.Words.{is_keyword}
 use Rattle.css_tree.specs.Expressions.{expr, assign, cond, cast, unary, postfix}
 use Rattle.css_pexpr.specs.declared.manner.Manner.{Manner}
@@ -48,10 +48,14 @@ abbrev pub takes_type : ℕ → Stack → Bool
 takes_type level (Pre line prefixes.Sizeof ∷ frames) = true
 takes_type level frames = nat_le (wanted level frames) cast
 
+-- the first word of a type, where one may stand
+abbrev pub first_word : Manner → Stack → ℕ → Specifier → Option State
+first_word m frames line s = if takes_type m.level frames then Some (Types frames line (record { specifiers = s ∷ []; stars = [] })) else None
+
 -- the first word of a type, behind a parenthesis
 abbrev pub begun : Manner → Stack → Option Specifier → Option State
 begun m frames None = None
-begun m (Group line ∷ frames) (Some s) = if takes_type m.level frames then Some (Types frames line (record { specifiers = s ∷ []; stars = [] })) else None
+begun m (Group line ∷ frames) (Some s) = first_word m frames line s
 begun m frames (Some s) = None
 
 -- a type behind which the parenthesis is closed
@@ -75,10 +79,15 @@ step_type m frames line type _ = None
 
 -- ---- where an operand is wanted
 
+-- a call without arguments, where none was read
+abbrev pub closed_call : ℕ → Stack → ℕ → Node → Option (List Expression) → Option State
+closed_call most frames line callee (Some []) = Some (Has frames false (operand postfix line (called most line callee (Some []))))
+closed_call most frames line callee before = None
+
 abbrev pub led : Manner → Stack → ℕ → Option Lead → Option State
 led m frames line (Some (leads.Prefix op)) = Some (Wants (Pre line op ∷ frames))
 led m frames line (Some leads.Open) = Some (Wants (Group line ∷ frames))
-led m (Passing first callee (Some []) ∷ frames) line (Some leads.Close) = Some (Has frames false (operand postfix first (called m.most first callee (Some []))))
+led m (Passing first callee before ∷ frames) line (Some leads.Close) = closed_call m.most frames first callee before
 led m frames line _ = None
 
 abbrev pub named : Manner → Stack → ℕ → List ℕ → Option State
