@@ -1,6 +1,8 @@
 -- What an expression begins with.
 use Rattle.std.proofs.Common.{◌≡◌, ◌⊎◌, ℕ, Bool, true, false, List, [], ◌∷◌, ◌++◌, codes, Option, Some, None, bytes_eq, refl, sym, ap, ◌∙◌, subst, inl, inr}
 use Rattle.std.specs.List.{list_any}
+use Rattle.std.proofs.lemmas.Bool.{false≢true}
+use Rattle.std.proofs.lemmas.Slice.Eq.{bytes_eq-Decides}
 use Rattle.css_base.specs.Tokens as tokens
 use Rattle.css_base.specs.Tokens.{Kind, Word, Punctuator, Lexeme}
 use Rattle.css_tree.specs.declared.scope.Scope.{Scope}
@@ -9,7 +11,7 @@ use Rattle.css_tree.specs.declared.words.Specifier.TheVariants as specifiers
 use Rattle.css_tree.specs.declared.operators.UnaryOperator.{UnaryOperator}
 use Rattle.css_tree.specs.declared.operators.UnaryOperator.TheVariants as unaries
 use Rattle.css_tree.specs.Syntax.{Expression}
-use Rattle.css_tree.specs.Parts.{kind_at, Part, One, These, Are}
+use Rattle.css_tree.specs.Parts.{kind_at}
 use Rattle.css_tree.specs.Words.{is_keyword, specifier_text}
 use Rattle.css_tree.specs.Expressions as spelled
 use Rattle.css_tree.specs.Expressions.{unary_text, SpellsExpression}
@@ -23,10 +25,10 @@ use Rattle.css_parse.proofs.WordTexts.{specifier_bytes}
 use Rattle.css_parse.proofs.FormKinds.{form_kind, form_is}
 
 -- punctuators that begin no expression
-abbrev no_starts : List (List ℕ)
+abbrev pub no_starts : List (List ℕ)
 no_starts = codes "{" ∷ codes "}" ∷ codes ")" ∷ codes "]" ∷ codes ";" ∷ codes "," ∷ codes "=" ∷ []
 
-begins_none : List ℕ → Bool
+abbrev pub begins_none : List ℕ → Bool
 begins_none bytes = list_any (bytes_eq bytes) no_starts
 
 -- a token that may begin an expression: of words a name or `sizeof`
@@ -42,11 +44,11 @@ pub record Begun (ts : List Lexeme) : Type 0 where
   pub parts : ts ≡ token ∷ rest
   pub is : IsStart (kind_at token)
 
-by_one : {ts : List Lexeme} (kind : Kind) (parts : List Part) → Are ts (One kind ∷ parts) → IsStart kind → Begun ts
-by_one kind parts (token, rest, e, is, a) start = record { token = token; rest = rest; parts = e; is = subst IsStart (sym is) start }
+by_one : {ts : List Lexeme} {kind : Kind} (token : Lexeme) (rest : List Lexeme) → ts ≡ token ∷ rest → kind_at token ≡ kind → IsStart kind → Begun ts
+by_one token rest e is start = record { token = token; rest = rest; parts = e; is = subst IsStart (sym is) start }
 
-by_these : {ts : List Lexeme} (us : List Lexeme) (part : Part) (parts : List Part) → Are ts (These us ∷ part ∷ parts) → Begun us → Begun ts
-by_these us part parts (rest, e, a) b = record { token = b.token; rest = b.rest ++ rest; parts = e ∙ ap (λ l. l ++ rest) b.parts; is = b.is }
+by_these : {ts : List Lexeme} (us rest : List Lexeme) → ts ≡ us ++ rest → Begun us → Begun ts
+by_these us rest e b = record { token = b.token; rest = b.rest ++ rest; parts = e ∙ ap (λ l. l ++ rest) b.parts; is = b.is }
 
 unary_start : (op : UnaryOperator) → begins_none (unary_text op) ≡ false
 unary_start unaries.AddressOf = refl
@@ -57,25 +59,25 @@ unary_start unaries.Complement = refl
 unary_start unaries.Not = refl
 
 pub begun : {scope : Scope} {k : ℕ} {ts : List Lexeme} {e : Expression} → SpellsExpression scope k ts e → Begun ts
-begun (spelled.Comma us vs low line a x y) = by_these us _ _ a (begun x)
-begun (spelled.Assign op us vs low line a x y) = by_these us _ _ a (begun x)
-begun (spelled.Conditional us vs ws low line a x y z) = by_these us _ _ a (begun x)
-begun (spelled.Binary op us vs low line a x y) = by_these us _ _ a (begun x)
-begun (spelled.Cast type us vs low line a x y) = by_one _ _ a refl
-begun (spelled.PreIncrement us low line a x) = by_one _ _ a refl
-begun (spelled.PreDecrement us low line a x) = by_one _ _ a refl
-begun (spelled.Unary op us low line a x) = by_one _ _ a (unary_start op)
-begun (spelled.SizeofExpression us low line a x) = by_one _ _ a (inr refl)
-begun (spelled.SizeofType type us low line a x) = by_one _ _ a (inr refl)
-begun (spelled.Index us vs low line a x y) = by_these us _ _ a (begun x)
-begun (spelled.PostIncrement us low line a x) = by_these us _ _ a (begun x)
-begun (spelled.PostDecrement us low line a x) = by_these us _ _ a (begun x)
-begun (spelled.Call name us low line a named x) = by_one _ _ a (inl named)
-begun (spelled.Name name line a named) = by_one _ _ a (inl named)
-begun (spelled.Constant type value line a) = by_one _ _ a tt
-begun (spelled.Character byte line a) = by_one _ _ a tt
-begun (spelled.String bytes line a) = by_one _ _ a tt
-begun (spelled.Parentheses us a x) = by_one _ _ a refl
+begun (spelled.Comma us vs low line a x y) = by_these us a.0 a.1 (begun x)
+begun (spelled.Assign op us vs low line a x y) = by_these us a.0 a.1 (begun x)
+begun (spelled.Conditional us vs ws low line a x y z) = by_these us a.0 a.1 (begun x)
+begun (spelled.Binary op us vs low line a x y) = by_these us a.0 a.1 (begun x)
+begun (spelled.Cast type us vs low line a x y) = by_one a.0 a.1 a.2 a.3 refl
+begun (spelled.PreIncrement us low line a x) = by_one a.0 a.1 a.2 a.3 refl
+begun (spelled.PreDecrement us low line a x) = by_one a.0 a.1 a.2 a.3 refl
+begun (spelled.Unary op us low line a x) = by_one a.0 a.1 a.2 a.3 (unary_start op)
+begun (spelled.SizeofExpression us low line a x) = by_one a.0 a.1 a.2 a.3 (inr refl)
+begun (spelled.SizeofType type us low line a x) = by_one a.0 a.1 a.2 a.3 (inr refl)
+begun (spelled.Index us vs low line a x y) = by_these us a.0 a.1 (begun x)
+begun (spelled.PostIncrement us low line a x) = by_these us a.0 a.1 (begun x)
+begun (spelled.PostDecrement us low line a x) = by_these us a.0 a.1 (begun x)
+begun (spelled.Call name us low line a named x) = by_one a.0 a.1 a.2 a.3 (inl named)
+begun (spelled.Name name line a named) = by_one a.0 a.1 a.2 a.3 (inl named)
+begun (spelled.Constant type value line a) = by_one a.0 a.1 a.2 a.3 tt
+begun (spelled.Character byte line a) = by_one a.0 a.1 a.2 a.3 tt
+begun (spelled.String bytes line a) = by_one a.0 a.1 a.2 a.3 tt
+begun (spelled.Parentheses us a x) = by_one a.0 a.1 a.2 a.3 refl
 
 -- more tokens behind
 pub begun_before : {ts : List Lexeme} (rest : List Lexeme) → Begun ts → Begun (ts ++ rest)
@@ -130,8 +132,8 @@ no_word_specifier : (scope : Scope) (bytes : List ℕ) → (is_keyword bytes ≡
 no_word_specifier scope bytes start = by (specifier_spelled scope bytes) refl
   where
     wrong : (s : Specifier) → bytes ≡ specifier_text s → (is_keyword bytes ≡ false) ⊎ (bytes ≡ codes "sizeof") → ⊥
-    wrong s e (inl named) = (let both : true ≡ false = sym (keyword_specifier s) ∙ ap is_keyword (sym e) ∙ named in absurd cc)
-    wrong s e (inr is) = (let both : true ≡ false = sym sizeof_same ∙ ap (bytes_eq (codes "sizeof")) (sym is ∙ e) ∙ sizeof_specifier s in absurd cc)
+    wrong s e (inl named) = false≢true (sym (sym (keyword_specifier s) ∙ ap is_keyword (sym e) ∙ named))
+    wrong s e (inr is) = false≢true (sym (sym sizeof_same ∙ ap (bytes_eq (codes "sizeof")) (sym is ∙ e) ∙ sizeof_specifier s))
 
     by : (found : Option Specifier) → specifier_spelled scope bytes ≡ found → specifier_spelled scope bytes ≡ None
     by None e = e
@@ -150,21 +152,21 @@ no_specifier_begun scope ts b = ap (next_specifier scope) b.parts ∙ no_kind_sp
 
 keyword_form : (f : Form) → IsStart (form_kind f) → ⊥
 unfolding is_keyword
-keyword_form forms.Block start = absurd cc
-keyword_form forms.If (inl start) = absurd cc
-keyword_form forms.If (inr start) = absurd cc
-keyword_form forms.While (inl start) = absurd cc
-keyword_form forms.While (inr start) = absurd cc
-keyword_form forms.Do (inl start) = absurd cc
-keyword_form forms.Do (inr start) = absurd cc
-keyword_form forms.For (inl start) = absurd cc
-keyword_form forms.For (inr start) = absurd cc
-keyword_form forms.Break (inl start) = absurd cc
-keyword_form forms.Break (inr start) = absurd cc
-keyword_form forms.Continue (inl start) = absurd cc
-keyword_form forms.Continue (inr start) = absurd cc
-keyword_form forms.Return (inl start) = absurd cc
-keyword_form forms.Return (inr start) = absurd cc
+keyword_form forms.Block start = false≢true (sym start)
+keyword_form forms.If (inl start) = false≢true (sym start)
+keyword_form forms.If (inr start) = false≢true ((bytes_eq-Decides (codes "if") (codes "sizeof")).1 start)
+keyword_form forms.While (inl start) = false≢true (sym start)
+keyword_form forms.While (inr start) = false≢true ((bytes_eq-Decides (codes "while") (codes "sizeof")).1 start)
+keyword_form forms.Do (inl start) = false≢true (sym start)
+keyword_form forms.Do (inr start) = false≢true ((bytes_eq-Decides (codes "do") (codes "sizeof")).1 start)
+keyword_form forms.For (inl start) = false≢true (sym start)
+keyword_form forms.For (inr start) = false≢true ((bytes_eq-Decides (codes "for") (codes "sizeof")).1 start)
+keyword_form forms.Break (inl start) = false≢true (sym start)
+keyword_form forms.Break (inr start) = false≢true ((bytes_eq-Decides (codes "break") (codes "sizeof")).1 start)
+keyword_form forms.Continue (inl start) = false≢true (sym start)
+keyword_form forms.Continue (inr start) = false≢true ((bytes_eq-Decides (codes "continue") (codes "sizeof")).1 start)
+keyword_form forms.Return (inl start) = false≢true (sym start)
+keyword_form forms.Return (inr start) = false≢true ((bytes_eq-Decides (codes "return") (codes "sizeof")).1 start)
 
 pub no_form_begun : (kind : Kind) → IsStart kind → form_of kind ≡ None
 no_form_begun kind start = by (form_of kind) refl

@@ -1,5 +1,7 @@
 -- Declarations that are spelled are read.
-use Rattle.std.proofs.Common.{◌≡◌, ◌⊎◌, ℕ, ◌+◌, ◌-◌, ◌<◌, ◌≤◌, max, Bool, true, false, List, [], ◌∷◌, ◌++◌, length, map, All, codes, Option, Some, None, refl, sym, ap, ◌∙◌, subst, inl, inr, arith, append_assoc}
+use Rattle.std.proofs.Common.{◌≡◌, ◌⊎◌, ℕ, ◌+◌, ◌-◌, ◌<◌, ◌≤◌, max, Bool, true, false, List, [], ◌∷◌, ◌++◌, length, map, All, codes, Option, Some, None, bytes_eq, refl, sym, ap, ◌∙◌, subst, inl, inr, arith, append_assoc}
+use Rattle.std.proofs.lemmas.Bool.{false≢true}
+use Rattle.std.proofs.lemmas.List.Elements.{All-head, All-tail}
 use Rattle.css_base.specs.Tokens as tokens
 use Rattle.css_base.specs.Tokens.{Kind, Word, Punctuator, Lexeme, At}
 use Rattle.css_tree.specs.declared.scope.Scope.{Scope}
@@ -22,7 +24,7 @@ use Rattle.css_parse.specs.Fronts.{Next}
 use Rattle.css_parse.specs.Words.{next_specifier, specifier_of, TakesSpecifiers, ReadsSpecifiers, next_qualifier, qualifier_of, TakesQualifiers, ReadsStars}
 use Rattle.css_parse.specs.Readings as reads
 use Rattle.css_parse.specs.Readings.{IsNoNext, ReadsExpression, ReadsOptional, ReadsCondition, ReadsDimensions, valued, ReadsInitialiser, ReadsParts, ReadsFurtherParts, ReadsInitial, ReadsName, ReadsHead, ReadsTail, ReadsDeclarator, ReadsFurtherDeclarators, ReadsDeclarators, ReadsDeclaration}
-use Rattle.css_parse.proofs.FrontTokens.{one_kind}
+use Rattle.css_parse.proofs.FrontTokens.{differ}
 use Rattle.css_parse.proofs.WordTexts.{specifier_read, qualifier_is, qualifier_read}
 use Rattle.css_parse.proofs.Walks.{IsStop, longest_before}
 use Rattle.css_parse.proofs.Begins.{IsStart, Begun, begun, begun_before, not_next, no_specifier_begun}
@@ -33,7 +35,10 @@ pub next_is : {kind : Kind} (t : Lexeme) (rest : List Lexeme) → kind_at t ≡ 
 next_is t rest is = record { token = t; parts = refl; is = is }
 
 pub other_next : {kind : Kind} (t : Lexeme) (rest : List Lexeme) (other : Kind) → kind_at t ≡ kind → (kind ≡ other → ⊥) → IsNoNext other (t ∷ rest)
-other_next t rest other is differ behind n = differ (sym is ∙ (let p = n.parts in let token : t ≡ n.token = cc in ap kind_at token ∙ n.is))
+other_next t rest other is different behind n = different (sym is ∙ (let p = n.parts in let token : t ≡ n.token = cc in ap kind_at token ∙ n.is))
+
+pub other_mark : {bytes : List ℕ} (t : Lexeme) (rest : List Lexeme) (other : List ℕ) → kind_at t ≡ Punctuator bytes → bytes_eq bytes other ≡ false → IsNoNext (Punctuator other) (t ∷ rest)
+other_mark {bytes} t rest other is different = other_next t rest (Punctuator other) is (differ bytes other different)
 
 -- ---- words
 
@@ -44,7 +49,7 @@ specifiers_taken scope (t ∷ ts) [] rest e allowed none = absurd cc
 specifiers_taken scope (t ∷ ts) (s ∷ all) rest e allowed none =
     let first : kind_at t ≡ specifier_kind s = cc in
     let others : kinds ts ≡ map specifier_kind all = cc in
-    (ts ++ rest, record { token = t; parts = refl; is = specifier_read scope (kind_at t) s first allowed.0 }, specifiers_taken scope ts all rest others allowed.1 none)
+    (ts ++ rest, record { token = t; parts = refl; is = specifier_read scope (kind_at t) s first (All-head (IsAllowed scope) s all allowed) }, specifiers_taken scope ts all rest others (All-tail (IsAllowed scope) s all allowed) none)
 
 pub specifiers_read : {scope : Scope} {ts : List Lexeme} {all : List Specifier} (rest : List Lexeme) → SpellsSpecifiers scope ts all → next_specifier scope rest ≡ None → ReadsSpecifiers scope (ts ++ rest) all rest
 specifiers_read {scope} {ts} {all} rest s none = record { some = s.some; takes = specifiers_taken scope ts all rest s.words s.allowed none }
@@ -125,7 +130,7 @@ dimensions_read scope most ts [] rest s low none = (ap (λ l. l ++ rest) s, subs
 dimensions_read scope most ts (size ∷ sizes) rest (us, vs, (o, r1, e1, opens, (r2, e2, (c, r3, e3, closes, e4))), s, more) low none =
     let whole : ts ++ rest ≡ o ∷ (us ++ c ∷ (vs ++ rest)) =
     ap (λ l. l ++ rest) (e1 ∙ ap (λ l. o ∷ l) (e2 ∙ ap (λ l. us ++ l) (e3 ∙ ap (λ l. c ∷ l) e4))) ∙ ap (λ l. o ∷ l) (append_assoc us (c ∷ vs) rest) in
-    let first = optional_read scope levels.Cond (codes "]") most us size c (vs ++ rest) closes refl (λ start. absurd cc) s (omega arith) in
+    let first = optional_read scope levels.Cond (codes "]") most us size c (vs ++ rest) closes refl (λ start. false≢true (sym start)) s (omega arith) in
     let others = dimensions_read scope most vs sizes rest more (omega arith) none in
     subst (λ l. ReadsDimensions scope most l (size ∷ sizes) rest) (sym whole) (us ++ c ∷ (vs ++ rest), vs ++ rest, next_is o _ opens, first, others)
 
@@ -176,10 +181,10 @@ mutual
   pub initialiser_read : (scope : Scope) (most : ℕ) (ts : List Lexeme) (i : Initialiser) (t : Lexeme) (rest : List Lexeme) → IsInitialEnd (kind_at t) → SpellsInitialiser scope ts i → height_of_initialiser i ≤ most
       → ReadsInitialiser scope most (ts ++ t ∷ rest) i (t ∷ rest)
   initialiser_read scope most ts (Value e) t rest end (s, none) low =
-      reads.Valued e (not_next (Punctuator (codes "{")) (begun_before (t ∷ rest) (begun s)) (λ start. absurd cc)) (longest_before t rest (end_stops (kind_at t) end) s) (value_is scope ts (t ∷ rest) e s none) low
+      reads.Valued e (not_next (Punctuator (codes "{")) (begun_before (t ∷ rest) (begun s)) (λ start. false≢true (sym start))) (longest_before t rest (end_stops (kind_at t) end) s) (value_is scope ts (t ∷ rest) e s none) low
   initialiser_read scope most ts (String line bytes) t rest end (a, line_is) low =
       let s : SpellsExpression scope (level_number levels.Assign) ts (tree.Text line bytes) = spelled.String bytes line_is a in
-      reads.Valued (tree.Text line bytes) (not_next (Punctuator (codes "{")) (begun_before (t ∷ rest) (begun s)) (λ start. absurd cc)) (longest_before t rest (end_stops (kind_at t) end) s) (string_is ts (t ∷ rest) line bytes a) low
+      reads.Valued (tree.Text line bytes) (not_next (Punctuator (codes "{")) (begun_before (t ∷ rest) (begun s)) (λ start. false≢true (sym start))) (longest_before t rest (end_stops (kind_at t) end) s) (string_is ts (t ∷ rest) line bytes a) low
   initialiser_read scope most ts (Braces line parts) t rest end (us, vs, (o, r1, e1, opens, (r2, e2, (r3, e3, (c, r4, e4, closes, e5)))), line_is, s, comma) low =
       let whole : ts ++ t ∷ rest ≡ o ∷ (us ++ (vs ++ c ∷ (t ∷ rest))) =
       ap (λ l. l ++ t ∷ rest) (e1 ∙ ap (λ l. o ∷ l) (e2 ∙ ap (λ l. us ++ l) (e3 ∙ ap (λ l. vs ++ l) (e4 ∙ ap (λ l. c ∷ l) e5)))) ∙ ap (λ l. o ∷ l) (append_assoc us (vs ++ c ∷ []) (t ∷ rest) ∙ ap (λ l. us ++ l) (append_assoc vs (c ∷ []) (t ∷ rest))) in
@@ -212,11 +217,11 @@ mutual
 
   -- no initialiser begins with a closing brace
   no_brace : (scope : Scope) (xs ys : List Lexeme) (i : Initialiser) (rest : List Lexeme) → SpellsInitialiser scope xs i → IsNoNext (Punctuator (codes "}")) ((xs ++ ys) ++ rest)
-  no_brace scope xs ys (Value e) rest (s, none) = not_next (Punctuator (codes "}")) (begun_before rest (begun_before ys (begun s))) (λ start. absurd cc)
+  no_brace scope xs ys (Value e) rest (s, none) = not_next (Punctuator (codes "}")) (begun_before rest (begun_before ys (begun s))) (λ start. false≢true (sym start))
   no_brace scope xs ys (String line bytes) rest (a, line_is) =
-      not_next (Punctuator (codes "}")) (begun_before rest (begun_before ys (begun (spelled.String {scope} {0} bytes line_is a)))) (λ start. absurd cc)
+      not_next (Punctuator (codes "}")) (begun_before rest (begun_before ys (begun (spelled.String {scope} {0} bytes line_is a)))) (λ start. false≢true (sym start))
   no_brace scope xs ys (Braces line parts) rest (us, vs, (o, r1, e1, opens, a), line_is, s, comma) =
-      subst (λ l. IsNoNext (Punctuator (codes "}")) ((l ++ ys) ++ rest)) (sym e1) (other_next o ((r1 ++ ys) ++ rest) (Punctuator (codes "}")) opens (λ e. absurd cc))
+      subst (λ l. IsNoNext (Punctuator (codes "}")) ((l ++ ys) ++ rest)) (sym e1) (other_mark o ((r1 ++ ys) ++ rest) (codes "}") opens refl)
 
   -- what stands behind an initialiser in braces
   further_first : (scope : Scope) (us : List Lexeme) (parts : Initialisers) (vs : List Lexeme) (c : Lexeme) (rest : List Lexeme) → kind_at c ≡ Punctuator (codes "}") → (vs ≡ []) ⊎ Are vs (mark (codes ",") ∷ [])
@@ -235,9 +240,9 @@ pub initial_read : (scope : Scope) (most : ℕ) (ts : List Lexeme) (i : Option I
 initial_read scope most ts None t rest end s low = (ap (λ l. l ++ t ∷ rest) s, subst (λ l. IsNoNext (Punctuator (codes "=")) (l ++ t ∷ rest)) (sym s) (no_equals (kind_at t) refl end))
   where
     no_equals : (kind : Kind) → kind_at t ≡ kind → IsInitialEnd kind → IsNoNext (Punctuator (codes "=")) (t ∷ rest)
-    no_equals kind is (inl e) = other_next t rest (Punctuator (codes "=")) (is ∙ e) (λ h. absurd cc)
-    no_equals kind is (inr (inl e)) = other_next t rest (Punctuator (codes "=")) (is ∙ e) (λ h. absurd cc)
-    no_equals kind is (inr (inr e)) = other_next t rest (Punctuator (codes "=")) (is ∙ e) (λ h. absurd cc)
+    no_equals kind is (inl e) = other_mark t rest (codes "=") (is ∙ e) refl
+    no_equals kind is (inr (inl e)) = other_mark t rest (codes "=") (is ∙ e) refl
+    no_equals kind is (inr (inr e)) = other_mark t rest (codes "=") (is ∙ e) refl
 initial_read scope most ts (Some i) t rest end (us, (o, r, e, is, f), s) low =
     let whole : ts ++ t ∷ rest ≡ o ∷ (us ++ t ∷ rest) = ap (λ l. l ++ t ∷ rest) (e ∙ ap (λ l. o ∷ l) f) in
     subst (λ l. ReadsInitial scope most l (Some i) (t ∷ rest)) (sym whole) (us ++ t ∷ rest, next_is o _ is, initialiser_read scope most us i t rest end s low)
@@ -277,13 +282,13 @@ pub declarator_read : (scope : Scope) (most : ℕ) (ts : List Lexeme) (d : Decla
 declarator_read scope most ts d t rest end s low = by s.parts
   where
     no_bracket : (kind : Kind) → kind_at t ≡ kind → IsInitialEnd kind → IsNoNext (Punctuator (codes "[")) (t ∷ rest)
-    no_bracket kind is (inl e) = other_next t rest (Punctuator (codes "[")) (is ∙ e) (λ h. absurd cc)
-    no_bracket kind is (inr (inl e)) = other_next t rest (Punctuator (codes "[")) (is ∙ e) (λ h. absurd cc)
-    no_bracket kind is (inr (inr e)) = other_next t rest (Punctuator (codes "[")) (is ∙ e) (λ h. absurd cc)
+    no_bracket kind is (inl e) = other_mark t rest (codes "[") (is ∙ e) refl
+    no_bracket kind is (inr (inl e)) = other_mark t rest (codes "[") (is ∙ e) refl
+    no_bracket kind is (inr (inr e)) = other_mark t rest (codes "[") (is ∙ e) refl
 
     no_size : (i : Option Initialiser) (us : List Lexeme) → SpellsInitial scope us i → IsNoNext (Punctuator (codes "[")) (us ++ t ∷ rest)
     no_size None us e = subst (λ l. IsNoNext (Punctuator (codes "[")) (l ++ t ∷ rest)) (sym e) (no_bracket (kind_at t) refl end)
-    no_size (Some i) us (vs, (o, r, e, is, f), h) = subst (λ l. IsNoNext (Punctuator (codes "[")) (l ++ t ∷ rest)) (sym e) (other_next o (r ++ t ∷ rest) (Punctuator (codes "[")) is (λ h. absurd cc))
+    no_size (Some i) us (vs, (o, r, e, is, f), h) = subst (λ l. IsNoNext (Punctuator (codes "[")) (l ++ t ∷ rest)) (sym e) (other_mark o (r ++ t ∷ rest) (codes "[") is refl)
 
     by : Are ts (These s.stars ∷ word d.name ∷ These s.dimensions ∷ These s.initial ∷ []) → ReadsDeclarator scope most (ts ++ t ∷ rest) d (t ∷ rest)
     by (r1, e1, (w, r2, e2, is, (r3, e3, e4))) =

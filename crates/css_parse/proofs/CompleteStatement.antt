@@ -1,5 +1,7 @@
 -- Statements that are spelled are read.
 use Rattle.std.proofs.Common.{◌≡◌, ◌⊎◌, ℕ, ◌+◌, ◌-◌, ◌<◌, ◌≤◌, max, Bool, true, false, List, [], ◌∷◌, ◌++◌, length, map, codes, Option, Some, None, bytes_eq, refl, sym, ap, ◌∙◌, subst, inl, inr, arith, append_assoc}
+use Rattle.std.proofs.lemmas.Bool.{false≢true}
+use Rattle.std.proofs.lemmas.Slice.Eq.{bytes_eq-Decides}
 use Rattle.css_base.specs.Tokens as tokens
 use Rattle.css_base.specs.Tokens.{Kind, Word, Punctuator, Lexeme}
 use Rattle.css_tree.specs.declared.scope.Scope.{Scope}
@@ -23,7 +25,7 @@ use Rattle.css_parse.specs.Forms.{form_of, form_of_punctuator}
 use Rattle.css_parse.specs.Words.{next_specifier, specifier_of, block_specifier, ReadsSpecifiers}
 use Rattle.css_parse.specs.Readings as reads
 use Rattle.css_parse.specs.Readings.{IsNoNext, ReadsOptional, ReadsCondition, ReadsDeclaration, ReadsMark, ReadsForStart, ReadsForHead, ReadsStatement, ReadsForm, ReadsEntries, ReadsEntry}
-use Rattle.css_parse.proofs.FrontTokens.{one_kind}
+use Rattle.css_parse.proofs.FrontTokens.{one_kind, differ, differ_word}
 use Rattle.css_parse.proofs.FormKinds.{form_kind, form_found}
 use Rattle.css_parse.proofs.WordTexts.{specifier_read}
 use Rattle.css_parse.proofs.Walks.{IsStop}
@@ -83,23 +85,23 @@ declaration_first scope ts d rest s = by s.parts
         subst SpecifierFirst (sym (ap (λ l. l ++ rest) e1 ∙ append_assoc s.specifiers r1 rest)) x
 
 specifier_no_else : (ts : List Lexeme) → SpecifierFirst ts → IsNoNext (Word (codes "else")) ts
-specifier_no_else ts x behind n = differ x.specifier (sym x.is ∙ (let p = x.parts in let q = n.parts in let token : x.token ≡ n.token = cc in ap kind_at token ∙ n.is))
+specifier_no_else ts x behind n = differs x.specifier (sym x.is ∙ (let p = x.parts in let q = n.parts in let token : x.token ≡ n.token = cc in ap kind_at token ∙ n.is))
   where
-    differ : (s : Specifier) → specifier_kind s ≡ Word (codes "else") → ⊥
-    differ specifiers.Void e = absurd cc
-    differ specifiers.Char e = absurd cc
-    differ specifiers.Short e = absurd cc
-    differ specifiers.Int e = absurd cc
-    differ specifiers.Long e = absurd cc
-    differ specifiers.Signed e = absurd cc
-    differ specifiers.Unsigned e = absurd cc
-    differ specifiers.Auto e = absurd cc
-    differ specifiers.Const e = absurd cc
-    differ specifiers.Inline e = absurd cc
-    differ specifiers.Register e = absurd cc
-    differ specifiers.Restrict e = absurd cc
-    differ specifiers.Volatile e = absurd cc
-    differ specifiers.Static e = absurd cc
+    differs : (s : Specifier) → specifier_kind s ≡ Word (codes "else") → ⊥
+    differs specifiers.Void e = differ_word (codes "void") (codes "else") refl e
+    differs specifiers.Char e = differ_word (codes "char") (codes "else") refl e
+    differs specifiers.Short e = differ_word (codes "short") (codes "else") refl e
+    differs specifiers.Int e = differ_word (codes "int") (codes "else") refl e
+    differs specifiers.Long e = differ_word (codes "long") (codes "else") refl e
+    differs specifiers.Signed e = differ_word (codes "signed") (codes "else") refl e
+    differs specifiers.Unsigned e = differ_word (codes "unsigned") (codes "else") refl e
+    differs specifiers.Auto e = differ_word (codes "auto") (codes "else") refl e
+    differs specifiers.Const e = differ_word (codes "const") (codes "else") refl e
+    differs specifiers.Inline e = differ_word (codes "inline") (codes "else") refl e
+    differs specifiers.Register e = differ_word (codes "register") (codes "else") refl e
+    differs specifiers.Restrict e = differ_word (codes "restrict") (codes "else") refl e
+    differs specifiers.Volatile e = differ_word (codes "volatile") (codes "else") refl e
+    differs specifiers.Static e = differ_word (codes "static") (codes "else") refl e
 
 semicolon_form : form_of (Punctuator (codes ";")) ≡ None
 unfolding form_of_punctuator
@@ -140,18 +142,18 @@ statement_first ts (tree.Return line value) (us, (t, r, e, is, a), h) = record {
 
 form_no_else : (f : Form) → form_kind f ≡ Word (codes "else") → ⊥
 form_no_else forms.Block e = absurd cc
-form_no_else forms.If e = absurd cc
-form_no_else forms.While e = absurd cc
-form_no_else forms.Do e = absurd cc
-form_no_else forms.For e = absurd cc
-form_no_else forms.Break e = absurd cc
-form_no_else forms.Continue e = absurd cc
-form_no_else forms.Return e = absurd cc
+form_no_else forms.If e = differ_word (codes "if") (codes "else") refl e
+form_no_else forms.While e = differ_word (codes "while") (codes "else") refl e
+form_no_else forms.Do e = differ_word (codes "do") (codes "else") refl e
+form_no_else forms.For e = differ_word (codes "for") (codes "else") refl e
+form_no_else forms.Break e = differ_word (codes "break") (codes "else") refl e
+form_no_else forms.Continue e = differ_word (codes "continue") (codes "else") refl e
+form_no_else forms.Return e = differ_word (codes "return") (codes "else") refl e
 
 else_starts_none : IsStart (Word (codes "else")) → ⊥
 unfolding is_keyword
-else_starts_none (inl e) = absurd cc
-else_starts_none (inr e) = absurd cc
+else_starts_none (inl e) = false≢true (sym e)
+else_starts_none (inr e) = false≢true ((bytes_eq-Decides (codes "else") (codes "sizeof")).1 e)
 
 start_no_else : {kind : Kind} → StatementStart kind → kind ≡ Word (codes "else") → ⊥
 start_no_else (OfForm f e) is = form_no_else f (sym e ∙ is)
@@ -167,7 +169,7 @@ start_no_brace : {kind : Kind} → StatementStart kind → kind ≡ Punctuator (
 start_no_brace (OfForm f e) is = form_no_brace f (sym e ∙ is)
   where
     form_no_brace : (f : Form) → form_kind f ≡ Punctuator (codes "}") → ⊥
-    form_no_brace forms.Block e = absurd cc
+    form_no_brace forms.Block e = differ (codes "{") (codes "}") refl e
     form_no_brace forms.If e = absurd cc
     form_no_brace forms.While e = absurd cc
     form_no_brace forms.Do e = absurd cc
@@ -175,8 +177,8 @@ start_no_brace (OfForm f e) is = form_no_brace f (sym e ∙ is)
     form_no_brace forms.Break e = absurd cc
     form_no_brace forms.Continue e = absurd cc
     form_no_brace forms.Return e = absurd cc
-start_no_brace (OfNothing e) is = (let both : Punctuator (codes ";") ≡ Punctuator (codes "}") = sym e ∙ is in absurd cc)
-start_no_brace (OfExpression s) is = (let wrong = subst IsStart is s in absurd cc)
+start_no_brace (OfNothing e) is = differ (codes ";") (codes "}") refl (sym e ∙ is)
+start_no_brace (OfExpression s) is = false≢true (sym (subst IsStart is s))
 
 start_no_directive : {kind : Kind} {words : _} → StatementStart kind → kind ≡ tokens.Directive words → ⊥
 start_no_directive (OfForm f e) is = form_no_directive f (sym e ∙ is)
@@ -193,19 +195,19 @@ start_no_directive (OfForm f e) is = form_no_directive f (sym e ∙ is)
 start_no_directive {words = words} (OfNothing e) is = (let both : Punctuator (codes ";") ≡ tokens.Directive words = sym e ∙ is in absurd cc)
 start_no_directive (OfExpression s) is = subst IsStart is s
 
+form_no_specifier : (f : Form) → specifier_of scopes.Block (form_kind f) ≡ None
+unfolding block_specifier
+form_no_specifier forms.Block = refl
+form_no_specifier forms.If = refl
+form_no_specifier forms.While = refl
+form_no_specifier forms.Do = refl
+form_no_specifier forms.For = refl
+form_no_specifier forms.Break = refl
+form_no_specifier forms.Continue = refl
+form_no_specifier forms.Return = refl
+
 start_no_specifier : {kind : Kind} → StatementStart kind → specifier_of scopes.Block kind ≡ None
 start_no_specifier (OfForm f e) = ap (specifier_of scopes.Block) e ∙ form_no_specifier f
-  where
-    form_no_specifier : (f : Form) → specifier_of scopes.Block (form_kind f) ≡ None
-    unfolding block_specifier
-    form_no_specifier forms.Block = refl
-    form_no_specifier forms.If = refl
-    form_no_specifier forms.While = refl
-    form_no_specifier forms.Do = refl
-    form_no_specifier forms.For = refl
-    form_no_specifier forms.Break = refl
-    form_no_specifier forms.Continue = refl
-    form_no_specifier forms.Return = refl
 start_no_specifier (OfNothing e) = ap (specifier_of scopes.Block) e
 start_no_specifier {kind} (OfExpression s) = no_kind_specifier scopes.Block kind s
 
@@ -224,7 +226,7 @@ start_read most ts (EvaluateFirst value) rest (us, (r, e, (t, r2, e2, is, none))
     let whole : ts ++ rest ≡ us ++ t ∷ rest = ap (λ l. l ++ rest) inner ∙ append_assoc us (t ∷ []) rest in
     let first = optional_first value us ts s t [] inner is in
     let no_specifier : next_specifier scopes.Block (ts ++ rest) ≡ None = ap (λ l. next_specifier scopes.Block (l ++ rest)) first.parts ∙ start_no_specifier first.is in
-    (no_specifier, subst (λ l. ReadsOptional scopes.Block levels.Expr (codes ";") most l value rest) (sym whole) (optional_read scopes.Block levels.Expr (codes ";") most us value t rest is refl (λ start. absurd cc) s low))
+    (no_specifier, subst (λ l. ReadsOptional scopes.Block levels.Expr (codes ";") most l value rest) (sym whole) (optional_read scopes.Block levels.Expr (codes ";") most us value t rest is refl (λ start. false≢true (sym start)) s low))
 
 -- ---- statements
 
@@ -239,7 +241,7 @@ mutual
       let whole : ts ++ rest ≡ us ++ t ∷ rest = ap (λ l. l ++ rest) inner ∙ append_assoc us (t ∷ []) rest in
       let first = optional_first value us ts s t [] inner is in
       reads.Evaluated first.token (first.rest ++ rest) (omega arith) (ap (λ l. l ++ rest) first.parts) (sym line_is ∙ ap first_line first.parts) (start_no_form value us ts s t inner is)
-      (subst (λ l. ReadsOptional scopes.Block levels.Expr (codes ";") (most - 1) l value rest) (sym whole) (optional_read scopes.Block levels.Expr (codes ";") (most - 1) us value t rest is refl (λ start. absurd cc) s (omega arith)))
+      (subst (λ l. ReadsOptional scopes.Block levels.Expr (codes ";") (most - 1) l value rest) (sym whole) (optional_read scopes.Block levels.Expr (codes ";") (most - 1) us value t rest is refl (λ start. false≢true (sym start)) s (omega arith)))
   statement_read most ts (tree.If line x s) rest none (us, vs, (t, r, e, is, (o, r2, e2, opens, (r3, e3, (c, r4, e4, closes, last)))), line_is, cs, ss) low =
       let whole : ts ++ rest ≡ t ∷ (o ∷ (us ++ c ∷ (vs ++ rest))) = ap (λ l. l ++ rest) (e ∙ ap (λ l. t ∷ l) (e2 ∙ ap (λ l. o ∷ l) (e3 ∙ ap (λ l. us ++ l) (e4 ∙ ap (λ l. c ∷ l) last)))) ∙ ap (λ l. t ∷ (o ∷ l)) (append_assoc us (c ∷ vs) rest) in
       formed most ts rest (tree.If line x s) forms.If t (o ∷ (us ++ c ∷ (vs ++ rest))) line (omega arith) whole is (sym (ap first_line e) ∙ line_is)
@@ -249,7 +251,7 @@ mutual
       ap (λ l. l ++ rest) (e ∙ ap (λ l. t ∷ l) (e2 ∙ ap (λ l. o ∷ l) (e3 ∙ ap (λ l. us ++ l) (e4 ∙ ap (λ l. c ∷ l) (e5 ∙ ap (λ l. vs ++ l) (e6 ∙ ap (λ l. w ∷ l) last)))))) ∙ ap (λ l. t ∷ (o ∷ l)) (append_assoc us (c ∷ (vs ++ w ∷ ws)) rest ∙ ap (λ l. us ++ c ∷ l) (append_assoc vs (w ∷ ws) rest)) in
       formed most ts rest (tree.IfElse line x s other) forms.If t (o ∷ (us ++ c ∷ (vs ++ w ∷ (ws ++ rest)))) line (omega arith) whole is (sym (ap first_line e) ∙ line_is)
       (reads.IfElse (vs ++ w ∷ (ws ++ rest)) (w ∷ (ws ++ rest)) (ws ++ rest) (condition_read o c (vs ++ w ∷ (ws ++ rest)) opens closes cs (omega arith))
-      (statement_read (most - 1) vs s (w ∷ (ws ++ rest)) (λ h. (let both : true ≡ false = sym h ∙ takes in absurd cc)) ss (omega arith)) (next_is w _ else_is) (statement_read (most - 1) ws other rest none os (omega arith)))
+      (statement_read (most - 1) vs s (w ∷ (ws ++ rest)) (λ h. absurd (false≢true (sym (sym h ∙ takes)))) ss (omega arith)) (next_is w _ else_is) (statement_read (most - 1) ws other rest none os (omega arith)))
   statement_read most ts (tree.While line x s) rest none (us, vs, (t, r, e, is, (o, r2, e2, opens, (r3, e3, (c, r4, e4, closes, last)))), line_is, cs, ss) low =
       let whole : ts ++ rest ≡ t ∷ (o ∷ (us ++ c ∷ (vs ++ rest))) = ap (λ l. l ++ rest) (e ∙ ap (λ l. t ∷ l) (e2 ∙ ap (λ l. o ∷ l) (e3 ∙ ap (λ l. us ++ l) (e4 ∙ ap (λ l. c ∷ l) last)))) ∙ ap (λ l. t ∷ (o ∷ l)) (append_assoc us (c ∷ vs) rest) in
       formed most ts rest (tree.While line x s) forms.While t (o ∷ (us ++ c ∷ (vs ++ rest))) line (omega arith) whole is (sym (ap first_line e) ∙ line_is)
@@ -260,7 +262,7 @@ mutual
       ∙ ap (λ l. t ∷ l) (append_assoc us (w ∷ (o ∷ (vs ++ c ∷ (z ∷ [])))) rest ∙ ap (λ l. us ++ w ∷ (o ∷ l)) (append_assoc vs (c ∷ (z ∷ [])) rest)) in
       formed most ts rest (tree.Do line s x) forms.Do t (us ++ w ∷ (o ∷ (vs ++ c ∷ (z ∷ rest)))) line (omega arith) whole is (sym (ap first_line e) ∙ line_is)
       (reads.Do (w ∷ (o ∷ (vs ++ c ∷ (z ∷ rest)))) (o ∷ (vs ++ c ∷ (z ∷ rest))) (z ∷ rest)
-      (statement_read (most - 1) us s (w ∷ (o ∷ (vs ++ c ∷ (z ∷ rest)))) (λ h. other_next w _ (Word (codes "else")) while_is (λ k. absurd cc)) ss (omega arith)) (next_is w _ while_is)
+      (statement_read (most - 1) us s (w ∷ (o ∷ (vs ++ c ∷ (z ∷ rest)))) (λ h. other_next w _ (Word (codes "else")) while_is (differ_word (codes "while") (codes "else") refl)) ss (omega arith)) (next_is w _ while_is)
       (condition_read o c (z ∷ rest) opens closes cs (omega arith)) (next_is z rest ends))
   statement_read most ts (tree.For line start condition step s) rest none (us, vs, ws, xs, (t, r, e, is, (o, r2, e2, opens, (r3, e3, (r4, e4, (m, r5, e5, mid, (r6, e6, (c, r7, e7, closes, last))))))), line_is, hs, cs, ps, ss) low =
       let whole : ts ++ rest ≡ t ∷ (o ∷ (us ++ (vs ++ m ∷ (ws ++ c ∷ (xs ++ rest))))) =
@@ -273,8 +275,8 @@ mutual
         third = ws ++ c ∷ (xs ++ rest);
         opens = next_is o _ opens;
         reads_start = start_read (most - 1) us start (vs ++ m ∷ (ws ++ c ∷ (xs ++ rest))) hs (omega arith);
-        reads_condition = optional_read scopes.Block levels.Expr (codes ";") (most - 1) vs condition m (ws ++ c ∷ (xs ++ rest)) mid refl (λ start. absurd cc) cs (omega arith);
-        reads_step = optional_read scopes.Block levels.Expr (codes ")") (most - 1) ws step c (xs ++ rest) closes refl (λ start. absurd cc) ps (omega arith);
+        reads_condition = optional_read scopes.Block levels.Expr (codes ";") (most - 1) vs condition m (ws ++ c ∷ (xs ++ rest)) mid refl (λ start. false≢true (sym start)) cs (omega arith);
+        reads_step = optional_read scopes.Block levels.Expr (codes ")") (most - 1) ws step c (xs ++ rest) closes refl (λ start. false≢true (sym start)) ps (omega arith);
       }) (statement_read (most - 1) xs s rest none ss (omega arith)))
   statement_read most ts (tree.Break line) rest none ((t, r, e, is, (z, r2, e2, ends, last)), line_is) low =
       formed most ts rest (tree.Break line) forms.Break t (z ∷ rest) line (omega arith) (ap (λ l. l ++ rest) (e ∙ ap (λ l. t ∷ l) (e2 ∙ ap (λ l. z ∷ l) last))) is (sym (ap first_line e) ∙ line_is) (reads.Break (next_is z rest ends))
@@ -282,7 +284,7 @@ mutual
       formed most ts rest (tree.Continue line) forms.Continue t (z ∷ rest) line (omega arith) (ap (λ l. l ++ rest) (e ∙ ap (λ l. t ∷ l) (e2 ∙ ap (λ l. z ∷ l) last))) is (sym (ap first_line e) ∙ line_is) (reads.Continue (next_is z rest ends))
   statement_read most ts (tree.Return line value) rest none (us, (t, r, e, is, (r2, e2, (z, r3, e3, ends, last))), line_is, s) low =
       formed most ts rest (tree.Return line value) forms.Return t (us ++ z ∷ rest) line (omega arith) (ap (λ l. l ++ rest) (e ∙ ap (λ l. t ∷ l) (e2 ∙ ap (λ l. us ++ l) (e3 ∙ ap (λ l. z ∷ l) last))) ∙ ap (λ l. t ∷ l) (append_assoc us (z ∷ []) rest)) is (sym (ap first_line e) ∙ line_is)
-      (reads.Return (optional_read scopes.Block levels.Expr (codes ";") (most - 1) us value z rest ends refl (λ start. absurd cc) s (omega arith)))
+      (reads.Return (optional_read scopes.Block levels.Expr (codes ";") (most - 1) us value z rest ends refl (λ start. false≢true (sym start)) s (omega arith)))
 
   formed : (most : ℕ) (ts rest : List Lexeme) (s : Statement) (f : Form) (t : Lexeme) (behind : List Lexeme) (line : ℕ) → 0 < most → ts ++ rest ≡ t ∷ behind → kind_at t ≡ form_kind f → line_of t ≡ line → ReadsForm f (most - 1) line behind s rest
       → ReadsStatement most (ts ++ rest) s rest

@@ -54,7 +54,7 @@ form_is (tokens.Text bytes) f h = absurd cc
 form_is (tokens.Directive words) f h = absurd cc
 
 pub form_found : (f : Form) → form_of (form_kind f) ≡ Some f
-unfolding form_of_word, form_of_punctuator
+unfolding form_of_word form_of_punctuator
 form_found forms.Block = refl
 form_found forms.If = refl
 form_found forms.While = refl

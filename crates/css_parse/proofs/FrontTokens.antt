@@ -1,6 +1,9 @@
 -- The first tokens of a list are what they are.
-use Rattle.std.proofs.Common.{◌≡◌, ℕ, ◌<◌, ◌≤◌, ◌+◌, List, [], ◌∷◌, ◌++◌, length, Option, Some, None, refl, sym, ap, ◌∙◌, subst, arith}
-use Rattle.css_base.specs.Tokens.{Kind, Lexeme}
+use Rattle.std.proofs.Common.{◌≡◌, ℕ, ◌<◌, ◌≤◌, ◌+◌, List, [], ◌∷◌, ◌++◌, length, Bool, true, false, bytes_eq, Option, Some, None, refl, sym, ap, ◌∙◌, subst, arith}
+use Rattle.std.proofs.lemmas.Bool.{false≢true}
+use Rattle.std.proofs.lemmas.Slice.Eq.{bytes_eq-Decides}
+use Rattle.css_base.specs.Tokens as tokens
+use Rattle.css_base.specs.Tokens.{Kind, Punctuator, Lexeme}
 use Rattle.css_tree.specs.declared.scope.Scope.{Scope}
 use Rattle.css_tree.specs.Syntax.{Expression}
 use Rattle.css_tree.specs.Parts.{kind_at}
@@ -19,6 +22,31 @@ one_kind a b =
     let q = b.parts in
     let token : a.token ≡ b.token = cc in
     sym a.is ∙ ap kind_at token ∙ b.is
+
+mark_bytes : Kind → List ℕ
+mark_bytes (Punctuator bytes) = bytes
+mark_bytes _ = []
+
+-- punctuators of different bytes differ
+pub differ : (a b : List ℕ) → bytes_eq a b ≡ false → Punctuator a ≡ Punctuator b → ⊥
+unfolding mark_bytes
+differ a b different e =
+    let same : a ≡ b = ap mark_bytes e in
+    false≢true (sym different ∙ (bytes_eq-Decides a b).1 same)
+
+word_bytes : Kind → List ℕ
+word_bytes (tokens.Word bytes) = bytes
+word_bytes _ = []
+
+-- and so do words
+pub differ_word : (a b : List ℕ) → bytes_eq a b ≡ false → tokens.Word a ≡ tokens.Word b → ⊥
+unfolding word_bytes
+differ_word a b different e =
+    let same : a ≡ b = ap word_bytes e in
+    false≢true (sym different ∙ (bytes_eq-Decides a b).1 same)
+
+pub apart : {a b : List ℕ} {ts us vs : List Lexeme} → Next (Punctuator a) ts us → Next (Punctuator b) ts vs → bytes_eq a b ≡ false → ⊥
+apart {a} {b} n m different = differ a b different (one_kind n m)
 
 pub next_shorter : {kind : Kind} {ts us : List Lexeme} → Next kind ts us → length us < length ts
 next_shorter n = let l = ap length n.parts in omega arith

@@ -25,11 +25,11 @@ goes_on {whole = whole} put next cons g is add drop = record {
   left = λ x rest r. (let l = g.left x rest r in drop l.0 rest l.1);
 }
 
-pub one_more : {A : Type 0} {whole before here behind : List A → List Lexeme → Type 0} {done : List A} (x : A) → Goes (λ xs. done ++ xs) whole before here
+pub one_more : {A : Type 0} {whole before here behind : List A → List Lexeme → Type 0} (done : List A) (x : A) → Goes (λ xs. done ++ xs) whole before here
     → ((xs : List A) (rest : List Lexeme) → behind xs rest → here (x ∷ xs) rest)
     → ((xs : List A) (rest : List Lexeme) → here xs rest → (ys : List A) × behind ys rest)
     → Goes (λ xs. (done ++ x ∷ []) ++ xs) whole before behind
-one_more {done = done} x g add drop = goes_on (λ xs. done ++ xs) (λ xs. (done ++ x ∷ []) ++ xs) (λ xs. x ∷ xs) g (λ xs. append_assoc done (x ∷ []) xs) add drop
+one_more done x g add drop = goes_on (λ xs. done ++ xs) (λ xs. (done ++ x ∷ []) ++ xs) (λ xs. x ∷ xs) g (λ xs. append_assoc done (x ∷ []) xs) add drop
 
-pub all_read : {A : Type 0} {whole before here : List A → List Lexeme → Type 0} {done : List A} {rest : List Lexeme} → Goes (λ xs. done ++ xs) whole before here → here [] rest → whole done rest
-all_read {whole = whole} {done = done} {rest} s r = subst (λ l. whole l rest) (append-nil done) (s.more [] rest r)
+pub all_read : {A : Type 0} {whole before here : List A → List Lexeme → Type 0} (done : List A) {rest : List Lexeme} → Goes (λ xs. done ++ xs) whole before here → here [] rest → whole done rest
+all_read {whole = whole} done {rest} s r = subst (λ l. whole l rest) (append-nil done) (s.more [] rest r)

@@ -1,4 +1,5 @@
 pub mod Nesting
+pub mod Lines
 pub mod DirectiveWords
 pub mod Expressions
 pub mod Walks

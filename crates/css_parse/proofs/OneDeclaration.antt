@@ -2,6 +2,7 @@
 use Rattle.std.proofs.Common.{◌≡◌, ℕ, ◌-◌, ◌<◌, ◌≤◌, List, [], ◌∷◌, ◌++◌, length, codes, Option, Some, None, refl, sym, ap, ap₂, ◌∙◌, subst, arith}
 use Rattle.css_base.specs.Tokens.{Kind, Word, Punctuator, Lexeme}
 use Rattle.css_tree.specs.declared.scope.Scope.{Scope}
+use Rattle.css_tree.specs.declared.scope.Scope.TheVariants as scopes
 use Rattle.css_tree.specs.declared.words.Specifier.{Specifier}
 use Rattle.css_tree.specs.declared.words.Qualifier.{Qualifier}
 use Rattle.css_tree.specs.Syntax.{Stars, Expression, Dimensions, Initialiser, Value, String, Braces, Initialisers, NoParts, MoreParts, Declarator, Declaration}
@@ -12,7 +13,7 @@ use Rattle.css_parse.specs.Fronts.{Next}
 use Rattle.css_parse.specs.Words.{specifier_of, next_specifier, IsSpecifierAt, TakesSpecifiers, ReadsSpecifiers, qualifier_of, next_qualifier, IsQualifierAt, TakesQualifiers, ReadsStars}
 use Rattle.css_parse.specs.Readings as reads
 use Rattle.css_parse.specs.Readings.{IsNoNext, ReadsExpression, ReadsOptional, ReadsCondition, ReadsDimensions, valued, ReadsInitialiser, ReadsParts, ReadsFurtherParts, ReadsInitial, ReadsName, ReadsHead, ReadsTail, ReadsDeclarator, ReadsFurtherDeclarators, ReadsDeclarators, ReadsDeclaration}
-use Rattle.css_parse.proofs.FrontTokens.{one_next, one_kind, one_longest}
+use Rattle.css_parse.proofs.FrontTokens.{one_next, one_kind, apart, one_longest}
 
 -- ---- words
 
@@ -69,10 +70,10 @@ pub one_stars : (ts : List Lexeme) (xs ys : Stars) {us vs : List Lexeme} → Rea
 one_stars ts [] [] a b = (refl, sym a.0 ∙ b.0)
 one_stars ts [] (y ∷ ys) a (behind, next, n, q, more) = absurd (a.1 behind n)
 one_stars ts (x ∷ xs) [] (behind, next, n, q, more) b = absurd (b.1 behind n)
-one_stars ts (x ∷ xs) (y ∷ ys) (behind, next, n, q, more) (behind', next', n', q', more') =
+one_stars ts (x ∷ xs) (y ∷ ys) {vs = vs} (behind, next, n, q, more) (behind', next', n', q', more') =
     let here = one_next n' n in
     let first = one_qualifiers behind x y q (subst (λ l. TakesQualifiers l y next') here q') in
-    let others = one_stars next xs ys more (subst (λ l. ReadsStars l ys _) (sym first.1) more') in
+    let others = one_stars next xs ys more (subst (λ l. ReadsStars l ys vs) (sym first.1) more') in
     (ap₂ ◌∷◌ first.0 others.0, others.1)
 
 -- ---- expressions
@@ -90,7 +91,7 @@ one_optional scope level close most ts (Some e) (Some other) {us} {vs} (behind, 
 
 pub one_condition : {most : ℕ} {ts us vs : List Lexeme} {e other : Expression} → ReadsCondition most ts e us → ReadsCondition most ts other vs → (e ≡ other) × (us ≡ vs)
 one_condition {most} {us = us} {other = other} (inside, behind, n, r, c) (inside', behind', n', r', c') =
-    let same = one_read r (subst (λ l. ReadsExpression _ _ most l other behind') (one_next n' n) r') in
+    let same = one_read r (subst (λ l. ReadsExpression scopes.Block levels.Expr most l other behind') (one_next n' n) r') in
     (same.0, one_next (subst (λ l. Next (Punctuator (codes ")")) l us) same.1 c) c')
 
 -- ---- declarators
@@ -99,10 +100,24 @@ pub one_dimensions : (scope : Scope) (most : ℕ) (ts : List Lexeme) (xs ys : Di
 one_dimensions scope most ts [] [] a b = (refl, sym a.0 ∙ b.0)
 one_dimensions scope most ts [] (y ∷ ys) a (inside, behind, n, r, more) = absurd (a.1 inside n)
 one_dimensions scope most ts (x ∷ xs) [] (inside, behind, n, r, more) b = absurd (b.1 inside n)
-one_dimensions scope most ts (x ∷ xs) (y ∷ ys) (inside, behind, n, r, more) (inside', behind', n', r', more') =
+one_dimensions scope most ts (x ∷ xs) (y ∷ ys) {vs = vs} (inside, behind, n, r, more) (inside', behind', n', r', more') =
     let first = one_optional scope levels.Cond (codes "]") most inside x y r (subst (λ l. ReadsOptional scope levels.Cond (codes "]") most l y behind') (one_next n' n) r') in
-    let others = one_dimensions scope most behind xs ys more (subst (λ l. ReadsDimensions scope most l ys _) (sym first.1) more') in
+    let others = one_dimensions scope most behind xs ys more (subst (λ l. ReadsDimensions scope most l ys vs) (sym first.1) more') in
     (ap₂ ◌∷◌ first.0 others.0, others.1)
+
+comma_no_brace : {ts us vs : List Lexeme} → Next (Punctuator (codes ",")) ts us → Next (Punctuator (codes "}")) ts vs → ⊥
+comma_no_brace n m = apart n m refl
+
+-- the brace that closes, with and without a comma before it
+closed_one : {scope : Scope} {most : ℕ} {ts us vs : List Lexeme} {y : Initialisers} → Next (Punctuator (codes "}")) ts us → ReadsFurtherParts scope most ts y vs → (NoParts ≡ y) × (us ≡ vs)
+closed_one n (reads.Closed m) = (refl, one_next n m)
+closed_one n (reads.ClosedBehindComma behind c m) = absurd (comma_no_brace c n)
+closed_one n (reads.Further behind c none q) = absurd (comma_no_brace c n)
+
+comma_one : {scope : Scope} {most : ℕ} {ts behind us vs : List Lexeme} {y : Initialisers} → Next (Punctuator (codes ",")) ts behind → Next (Punctuator (codes "}")) behind us → ReadsFurtherParts scope most ts y vs → (NoParts ≡ y) × (us ≡ vs)
+comma_one c n (reads.Closed m) = absurd (comma_no_brace c m)
+comma_one {us = us} c n (reads.ClosedBehindComma behind' c' m) = (refl, one_next (subst (λ l. Next (Punctuator (codes "}")) l us) (one_next c c') n) m)
+comma_one {us = us} c n (reads.Further behind' c' none q) = absurd (none us (subst (λ l. Next (Punctuator (codes "}")) l us) (one_next c c') n))
 
 mutual
   pub one_initialiser : {scope : Scope} {most : ℕ} {ts us vs : List Lexeme} {x y : Initialiser} → ReadsInitialiser scope most ts x us → ReadsInitialiser scope most ts y vs → (x ≡ y) × (us ≡ vs)
@@ -123,15 +138,9 @@ mutual
       (ap₂ MoreParts first.0 others.0, others.1)
 
   pub one_further_parts : {scope : Scope} {most : ℕ} {ts us vs : List Lexeme} {x y : Initialisers} → ReadsFurtherParts scope most ts x us → ReadsFurtherParts scope most ts y vs → (x ≡ y) × (us ≡ vs)
-  one_further_parts (reads.Closed n) (reads.Closed n') = (refl, one_next n n')
-  one_further_parts (reads.Closed n) (reads.ClosedBehindComma behind c n') = absurd (let k = one_kind n c in cc)
-  one_further_parts (reads.Closed n) (reads.Further behind c none q) = absurd (let k = one_kind n c in cc)
-  one_further_parts (reads.ClosedBehindComma behind c n) (reads.Closed n') = absurd (let k = one_kind n' c in cc)
-  one_further_parts (reads.ClosedBehindComma {rest = us} behind c n) (reads.ClosedBehindComma behind' c' n') =
-      (refl, one_next (subst (λ l. Next (Punctuator (codes "}")) l us) (one_next c c') n) n')
-  one_further_parts (reads.ClosedBehindComma {rest = us} behind c n) (reads.Further behind' c' none q) =
-      absurd (none us (subst (λ l. Next (Punctuator (codes "}")) l us) (one_next c c') n))
-  one_further_parts (reads.Further behind c none q) (reads.Closed n') = absurd (let k = one_kind n' c in cc)
+  one_further_parts (reads.Closed n) b = closed_one n b
+  one_further_parts (reads.ClosedBehindComma behind c n) b = comma_one c n b
+  one_further_parts (reads.Further behind c none q) (reads.Closed n') = absurd (comma_no_brace c n')
   one_further_parts (reads.Further behind c none q) (reads.ClosedBehindComma {rest = vs} behind' c' n') =
       absurd (none vs (subst (λ l. Next (Punctuator (codes "}")) l vs) (one_next c' c) n'))
   one_further_parts {scope} {most} (reads.Further behind c none q) (reads.Further {rest = vs} {parts = ps} behind' c' none' q') =
@@ -146,10 +155,10 @@ one_initial scope most ts (Some x) (Some y) {vs = vs} (behind, n, r) (behind', n
     (ap Some same.0, same.1)
 
 pub one_name : {ts us vs : List Lexeme} {x y : List ℕ} → ReadsName ts x us → ReadsName ts y vs → (x ≡ y) × (us ≡ vs)
-one_name {x = x} {y = y} a b =
+one_name {ts} {vs = vs} {x} {y} a b =
     let kinds : Word x ≡ Word y = one_kind a.word b.word in
     let same : x ≡ y = cc in
-    (same, one_next a.word (subst (λ z. Next (Word z) _ _) (sym same) b.word))
+    (same, one_next a.word (subst (λ z. Next (Word z) ts vs) (sym same) b.word))
 
 pub one_head : {ts us vs : List Lexeme} {xs ys : Stars} {x y : List ℕ} → ReadsHead ts xs x us → ReadsHead ts ys y vs → (xs ≡ ys) × (x ≡ y) × (us ≡ vs)
 one_head {ts} {vs = vs} {xs} {ys} {y = y} a b =
@@ -163,8 +172,14 @@ one_tail {scope} {most} {ts} {vs = vs} {xs} {ys} {x} {y} a b =
     let initial = one_initial scope most a.behind x y a.reads_initial (subst (λ l. ReadsInitial scope most l y vs) (sym sizes.1) b.reads_initial) in
     (sizes.0, initial.0, initial.1)
 
+abbrev make_declarator : ℕ → Stars → List ℕ → Dimensions → Option Initialiser → Declarator
+make_declarator line stars name sizes value = record { line = line; stars = stars; name = name; dimensions = sizes; initialiser = value }
+
 pub same_declarator : (c d : Declarator) → c.line ≡ d.line → c.stars ≡ d.stars → c.name ≡ d.name → c.dimensions ≡ d.dimensions → c.initialiser ≡ d.initialiser → c ≡ d
-same_declarator c d p q r s t = cc
+same_declarator c d p q r s t =
+    ap (λ x. make_declarator x c.stars c.name c.dimensions c.initialiser) p ∙ ap (λ x. make_declarator d.line x c.name c.dimensions c.initialiser) q
+    ∙ ap (λ x. make_declarator d.line d.stars x c.dimensions c.initialiser) r ∙ ap (λ x. make_declarator d.line d.stars d.name x c.initialiser) s
+    ∙ ap (λ x. make_declarator d.line d.stars d.name d.dimensions x) t
 
 pub one_declarator : {scope : Scope} {most : ℕ} {ts us vs : List Lexeme} {c d : Declarator} → ReadsDeclarator scope most ts c us → ReadsDeclarator scope most ts d vs → (c ≡ d) × (us ≡ vs)
 one_declarator {scope} {most} {vs = vs} {c} {d} a b =
@@ -174,23 +189,27 @@ one_declarator {scope} {most} {vs = vs} {c} {d} a b =
 
 pub one_further_declarators : (scope : Scope) (most : ℕ) (ts : List Lexeme) (xs ys : List Declarator) {us vs : List Lexeme} → ReadsFurtherDeclarators scope most ts xs us → ReadsFurtherDeclarators scope most ts ys vs → (xs ≡ ys) × (us ≡ vs)
 one_further_declarators scope most ts [] [] a b = (refl, one_next a b)
-one_further_declarators scope most ts [] (y ∷ ys) a (behind, next, n, r, more) = absurd (let k = one_kind a n in cc)
-one_further_declarators scope most ts (x ∷ xs) [] (behind, next, n, r, more) b = absurd (let k = one_kind b n in cc)
-one_further_declarators scope most ts (x ∷ xs) (y ∷ ys) (behind, next, n, r, more) (behind', next', n', r', more') =
+one_further_declarators scope most ts [] (y ∷ ys) a (behind, next, n, r, more) = absurd (apart a n refl)
+one_further_declarators scope most ts (x ∷ xs) [] (behind, next, n, r, more) b = absurd (apart b n refl)
+one_further_declarators scope most ts (x ∷ xs) (y ∷ ys) {vs = vs} (behind, next, n, r, more) (behind', next', n', r', more') =
     let first = one_declarator r (subst (λ l. ReadsDeclarator scope most l y next') (one_next n' n) r') in
-    let others = one_further_declarators scope most next xs ys more (subst (λ l. ReadsFurtherDeclarators scope most l ys _) (sym first.1) more') in
+    let others = one_further_declarators scope most next xs ys more (subst (λ l. ReadsFurtherDeclarators scope most l ys vs) (sym first.1) more') in
     (ap₂ ◌∷◌ first.0 others.0, others.1)
 
 pub one_declarators : (scope : Scope) (most : ℕ) (ts : List Lexeme) (xs ys : List Declarator) {us vs : List Lexeme} → ReadsDeclarators scope most ts xs us → ReadsDeclarators scope most ts ys vs → (xs ≡ ys) × (us ≡ vs)
 one_declarators scope most ts [] ys a b = absurd a
 one_declarators scope most ts (x ∷ xs) [] a b = absurd b
-one_declarators scope most ts (x ∷ xs) (y ∷ ys) (next, r, more) (next', r', more') =
+one_declarators scope most ts (x ∷ xs) (y ∷ ys) {vs = vs} (next, r, more) (next', r', more') =
     let first = one_declarator r r' in
-    let others = one_further_declarators scope most next xs ys more (subst (λ l. ReadsFurtherDeclarators scope most l ys _) (sym first.1) more') in
+    let others = one_further_declarators scope most next xs ys more (subst (λ l. ReadsFurtherDeclarators scope most l ys vs) (sym first.1) more') in
     (ap₂ ◌∷◌ first.0 others.0, others.1)
 
+abbrev make_declaration : ℕ → List Specifier → List Declarator → Declaration
+make_declaration line words all = record { line = line; specifiers = words; declarators = all }
+
 pub same_declaration : (c d : Declaration) → c.line ≡ d.line → c.specifiers ≡ d.specifiers → c.declarators ≡ d.declarators → c ≡ d
-same_declaration c d p q r = cc
+same_declaration c d p q r =
+    ap (λ x. make_declaration x c.specifiers c.declarators) p ∙ ap (λ x. make_declaration d.line x c.declarators) q ∙ ap (λ x. make_declaration d.line d.specifiers x) r
 
 pub one_declaration : {scope : Scope} {most : ℕ} {ts us vs : List Lexeme} {c d : Declaration} → ReadsDeclaration scope most ts c us → ReadsDeclaration scope most ts d vs → (c ≡ d) × (us ≡ vs)
 one_declaration {scope} {most} {vs = vs} {c} {d} a b =

@@ -4,13 +4,13 @@ use Rattle.css_base.specs.Tokens as tokens
 use Rattle.css_base.specs.Tokens.{Kind, Word, Punctuator, Lexeme}
 use Rattle.css_tree.specs.declared.scope.Scope.TheVariants as scopes
 use Rattle.css_tree.specs.declared.words.Specifier.{Specifier}
-use Rattle.css_tree.specs.Syntax.{Stars, Dimensions, Initialiser, Declarator, Declaration, Mark, Parameter, Parameters, Empty, VoidAlone, Listed, Body, Function, Item, Define, Declare, Tree}
+use Rattle.css_tree.specs.Syntax.{Stars, Dimensions, Initialiser, Declarator, Declaration, Mark, Entries, Parameter, Parameters, Empty, VoidAlone, Listed, Body, Function, Item, Define, Declare, Tree}
 use Rattle.css_tree.specs.Parts.{first_line}
 use Rattle.css_parse.specs.Fronts.{Next}
 use Rattle.css_parse.specs.Words.{next_specifier, specifier_of, ReadsSpecifiers, ReadsStars, TakesSpecifiers}
 use Rattle.css_parse.specs.Readings.{ReadsDimensions, ReadsInitial, ReadsName, ReadsHead, ReadsTail, ReadsDeclarators, ReadsFurtherDeclarators, ReadsDeclaration, ReadsMark, ReadsEntries}
 use Rattle.css_parse.specs.ItemReadings.{ReadsOptionalName, ReadsParameter, ReadsFurtherParameters, ReadsVoid, ReadsListed, ReadsParameters, ReadsBody, ReadsOptionalMark, ReadsFront, ReadsFunction, ReadsItem}
-use Rattle.css_parse.proofs.FrontTokens.{one_next, one_kind}
+use Rattle.css_parse.proofs.FrontTokens.{one_next, one_kind, apart}
 use Rattle.css_parse.proofs.OneDeclaration.{no_specifier, one_specifiers, one_stars, one_dimensions, one_name, one_head, one_declaration}
 use Rattle.css_parse.proofs.OneStatement.{one_mark, one_entries}
 
@@ -30,8 +30,11 @@ one_optional_name ts None (Some y) {vs = vs} a b = absurd (a.1 y vs b)
 one_optional_name ts (Some x) None {us} a b = absurd (b.1 x us a)
 one_optional_name ts (Some x) (Some y) a b = let same = one_name a b in (ap Some same.0, same.1)
 
+abbrev make_parameter : ℕ → List Specifier → Stars → Option (List ℕ) → Dimensions → Parameter
+make_parameter x0 x1 x2 x3 x4 = record { line = x0; specifiers = x1; stars = x2; name = x3; dimensions = x4 }
+
 same_parameter : (p q : Parameter) → p.line ≡ q.line → p.specifiers ≡ q.specifiers → p.stars ≡ q.stars → p.name ≡ q.name → p.dimensions ≡ q.dimensions → p ≡ q
-same_parameter p q a b c d e = cc
+same_parameter p q e0 e1 e2 e3 e4 = ap (λ x. make_parameter x p.specifiers p.stars p.name p.dimensions) e0 ∙ ap (λ x. make_parameter q.line x p.stars p.name p.dimensions) e1 ∙ ap (λ x. make_parameter q.line q.specifiers x p.name p.dimensions) e2 ∙ ap (λ x. make_parameter q.line q.specifiers q.stars x p.dimensions) e3 ∙ ap (λ x. make_parameter q.line q.specifiers q.stars q.name x) e4
 
 pub one_parameter : {most : ℕ} {ts us vs : List Lexeme} {p q : Parameter} → ReadsParameter most ts p us → ReadsParameter most ts q vs → (p ≡ q) × (us ≡ vs)
 one_parameter {most} {vs = vs} {p} {q} a b =
@@ -43,8 +46,8 @@ one_parameter {most} {vs = vs} {p} {q} a b =
 
 pub one_further_parameters : (most : ℕ) (ts : List Lexeme) (xs ys : List Parameter) {us vs : List Lexeme} → ReadsFurtherParameters most ts xs us → ReadsFurtherParameters most ts ys vs → (xs ≡ ys) × (us ≡ vs)
 one_further_parameters most ts [] [] a b = (refl, one_next a b)
-one_further_parameters most ts [] (y ∷ ys) a (behind, next, n, r, more) = absurd (let k = one_kind a n in cc)
-one_further_parameters most ts (x ∷ xs) [] (behind, next, n, r, more) b = absurd (let k = one_kind b n in cc)
+one_further_parameters most ts [] (y ∷ ys) a (behind, next, n, r, more) = absurd (apart a n refl)
+one_further_parameters most ts (x ∷ xs) [] (behind, next, n, r, more) b = absurd (apart b n refl)
 one_further_parameters most ts (x ∷ xs) (y ∷ ys) {vs = vs} (behind, next, n, r, more) (behind', next', n', r', more') =
     let first = one_parameter r (subst (λ l. ReadsParameter most l y next') (one_next n' n) r') in
     let others = one_further_parameters most next xs ys more (subst (λ l. ReadsFurtherParameters most l ys vs) (sym first.1) more') in
@@ -59,9 +62,9 @@ one_listed most ts (x ∷ xs) (y ∷ ys) {vs = vs} (next, r, more) (next', r', m
     (ap₂ ◌∷◌ first.0 others.0, others.1)
 
 -- no parameter begins with a closing parenthesis
-pub listed_not_closed : (most : ℕ) (ts : List Lexeme) (xs : List Parameter) {us vs : List Lexeme} → ReadsListed most ts xs us → Next (Punctuator (codes ")")) ts vs → ⊥
-listed_not_closed most ts [] r n = r
-listed_not_closed most ts (x ∷ xs) (next, r, more) n = no_specifier_mark r.reads_specifiers n refl
+pub listed_not_closed : (most : ℕ) (ts : List Lexeme) (xs : List Parameter) (us : List Lexeme) {vs : List Lexeme} → ReadsListed most ts xs us → Next (Punctuator (codes ")")) ts vs → ⊥
+listed_not_closed most ts [] us r n = r
+listed_not_closed most ts (x ∷ xs) us (next, r, more) n = no_specifier_mark r.reads_specifiers n refl
 
 pub one_void : {ts us vs : List Lexeme} → ReadsVoid ts us → ReadsVoid ts vs → us ≡ vs
 one_void {us = us} (behind, n, c) (behind', n', c') = one_next (subst (λ l. Next (Punctuator (codes ")")) l us) (one_next n n') c) c'
@@ -69,23 +72,26 @@ one_void {us = us} (behind, n, c) (behind', n', c') = one_next (subst (λ l. Nex
 pub one_parameters : (most : ℕ) (ts : List Lexeme) (x y : Parameters) {us vs : List Lexeme} → ReadsParameters most ts x us → ReadsParameters most ts y vs → (x ≡ y) × (us ≡ vs)
 one_parameters most ts Empty Empty a b = (refl, one_next a b)
 one_parameters most ts Empty VoidAlone a b = absurd (let k = one_kind a b.1 in cc)
-one_parameters most ts Empty (Listed ys) a b = absurd (listed_not_closed most ts ys b.1 a)
+one_parameters most ts Empty (Listed ys) {vs = vs} a b = absurd (listed_not_closed most ts ys vs b.1 a)
 one_parameters most ts VoidAlone Empty a b = absurd (let k = one_kind b a.1 in cc)
 one_parameters most ts VoidAlone VoidAlone a b = (refl, one_void a b)
 one_parameters most ts VoidAlone (Listed ys) {us} a b = absurd (b.0 us a)
-one_parameters most ts (Listed xs) Empty a b = absurd (listed_not_closed most ts xs a.1 b)
+one_parameters most ts (Listed xs) Empty {us} a b = absurd (listed_not_closed most ts xs us a.1 b)
 one_parameters most ts (Listed xs) VoidAlone {vs = vs} a b = absurd (a.0 vs b)
 one_parameters most ts (Listed xs) (Listed ys) a b = let same = one_listed most ts xs ys a.1 b.1 in (ap Listed same.0, same.1)
 
 -- ---- items
 
+abbrev make_body : ℕ → Entries → Body
+make_body x0 x1 = record { line = x0; entries = x1 }
+
 same_body : (b c : Body) → b.line ≡ c.line → b.entries ≡ c.entries → b ≡ c
-same_body b c p q = cc
+same_body p q e0 e1 = ap (λ x. make_body x p.entries) e0 ∙ ap (λ x. make_body q.line x) e1
 
 pub one_body : (most : ℕ) (ts : List Lexeme) (x y : Option Body) {us vs : List Lexeme} → ReadsBody most ts x us → ReadsBody most ts y vs → (x ≡ y) × (us ≡ vs)
 one_body most ts None None a b = (refl, one_next a b)
-one_body most ts None (Some y) a (inside, some, n, line, r) = absurd (let k = one_kind a n in cc)
-one_body most ts (Some x) None (inside, some, n, line, r) b = absurd (let k = one_kind b n in cc)
+one_body most ts None (Some y) a (inside, some, n, line, r) = absurd (apart a n refl)
+one_body most ts (Some x) None (inside, some, n, line, r) b = absurd (apart b n refl)
 one_body most ts (Some x) (Some y) {vs = vs} (inside, some, n, line, r) (inside', some', n', line', r') =
     let same = one_entries r (subst (λ l. ReadsEntries (most - 1) l y.entries vs) (one_next n' n) r') in
     (ap Some (same_body x y (sym line ∙ line') same.0), same.1)
@@ -96,8 +102,11 @@ one_optional_mark ts None (Some y) {vs = vs} a b = absurd (a.1 y vs b)
 one_optional_mark ts (Some x) None {us} a b = absurd (b.1 x us a)
 one_optional_mark ts (Some x) (Some y) a b = let same = one_mark a b in (ap Some same.0, same.1)
 
+abbrev make_function : Option Mark → ℕ → List Specifier → Stars → List ℕ → Parameters → Option Body → Function
+make_function x0 x1 x2 x3 x4 x5 x6 = record { directive = x0; line = x1; specifiers = x2; stars = x3; name = x4; parameters = x5; body = x6 }
+
 same_function : (f g : Function) → f.directive ≡ g.directive → f.line ≡ g.line → f.specifiers ≡ g.specifiers → f.stars ≡ g.stars → f.name ≡ g.name → f.parameters ≡ g.parameters → f.body ≡ g.body → f ≡ g
-same_function f g a b c d e h i = cc
+same_function p q e0 e1 e2 e3 e4 e5 e6 = ap (λ x. make_function x p.line p.specifiers p.stars p.name p.parameters p.body) e0 ∙ ap (λ x. make_function q.directive x p.specifiers p.stars p.name p.parameters p.body) e1 ∙ ap (λ x. make_function q.directive q.line x p.stars p.name p.parameters p.body) e2 ∙ ap (λ x. make_function q.directive q.line q.specifiers x p.name p.parameters p.body) e3 ∙ ap (λ x. make_function q.directive q.line q.specifiers q.stars x p.parameters p.body) e4 ∙ ap (λ x. make_function q.directive q.line q.specifiers q.stars q.name x p.body) e5 ∙ ap (λ x. make_function q.directive q.line q.specifiers q.stars q.name q.parameters x) e6
 
 pub one_function : {most : ℕ} {ts us vs : List Lexeme} {f g : Function} → ReadsFunction most ts f us → ReadsFunction most ts g vs → (f ≡ g) × (us ≡ vs)
 one_function {most} {ts} {vs = vs} {f} {g} a b =
@@ -111,19 +120,19 @@ one_function {most} {ts} {vs = vs} {f} {g} a b =
     (same_function f g mark.0 line words.0 head.0 head.1 list.0 body.0, body.1)
 
 -- behind an object's name stands no opening parenthesis
-not_opened_behind : (most : ℕ) (ts : List Lexeme) (ds : List Declarator) {us vs : List Lexeme} → ReadsFurtherDeclarators scopes.File most ts ds us → Next (Punctuator (codes "(")) ts vs → ⊥
-not_opened_behind most ts [] a n = absurd (let k = one_kind a n in cc)
-not_opened_behind most ts (d ∷ ds) (behind, next, c, r, more) n = absurd (let k = one_kind c n in cc)
+not_opened_behind : (most : ℕ) (ts : List Lexeme) (ds : List Declarator) (us : List Lexeme) {vs : List Lexeme} → ReadsFurtherDeclarators scopes.File most ts ds us → Next (Punctuator (codes "(")) ts vs → ⊥
+not_opened_behind most ts [] us a n = absurd (apart a n refl)
+not_opened_behind most ts (d ∷ ds) us (behind, next, c, r, more) n = absurd (apart c n refl)
 
-initial_not_opened : (most : ℕ) (ts : List Lexeme) (x : Option Initialiser) (ds : List Declarator) {behind us vs : List Lexeme} → ReadsInitial scopes.File most ts x behind → ReadsFurtherDeclarators scopes.File most behind ds us
+initial_not_opened : (most : ℕ) (ts : List Lexeme) (x : Option Initialiser) (ds : List Declarator) (behind us : List Lexeme) {vs : List Lexeme} → ReadsInitial scopes.File most ts x behind → ReadsFurtherDeclarators scopes.File most behind ds us
     → Next (Punctuator (codes "(")) ts vs → ⊥
-initial_not_opened most ts None ds {us = us} a more n = not_opened_behind most ts ds (subst (λ l. ReadsFurtherDeclarators scopes.File most l ds us) (sym a.0) more) n
-initial_not_opened most ts (Some x) ds (behind, c, r) more n = absurd (let k = one_kind c n in cc)
+initial_not_opened most ts None ds behind us a more n = not_opened_behind most ts ds us (subst (λ l. ReadsFurtherDeclarators scopes.File most l ds us) (sym a.0) more) n
+initial_not_opened most ts (Some x) ds end us (behind, c, r) more n = absurd (apart c n refl)
 
-tail_not_opened : (most : ℕ) (ts middle : List Lexeme) (sizes : Dimensions) (x : Option Initialiser) (ds : List Declarator) {behind us vs : List Lexeme} → ReadsDimensions scopes.File most ts sizes middle
+tail_not_opened : (most : ℕ) (ts middle : List Lexeme) (sizes : Dimensions) (x : Option Initialiser) (ds : List Declarator) (behind us : List Lexeme) {vs : List Lexeme} → ReadsDimensions scopes.File most ts sizes middle
     → ReadsInitial scopes.File most middle x behind → ReadsFurtherDeclarators scopes.File most behind ds us → Next (Punctuator (codes "(")) ts vs → ⊥
-tail_not_opened most ts middle [] x ds {behind} a i more n = initial_not_opened most ts x ds (subst (λ l. ReadsInitial scopes.File most l x behind) (sym a.0) i) more n
-tail_not_opened most ts middle (size ∷ sizes) x ds (inside, behind, c, r, m) i more n = absurd (let k = one_kind c n in cc)
+tail_not_opened most ts middle [] x ds behind us a i more n = initial_not_opened most ts x ds behind us (subst (λ l. ReadsInitial scopes.File most l x behind) (sym a.0) i) more n
+tail_not_opened most ts middle (size ∷ sizes) x ds end us (inside, behind, c, r, m) i more n = absurd (apart c n refl)
 
 -- an item of objects up to its first name, and what is behind that
 pub record IsObjects (most : ℕ) (ts : List Lexeme) (words : List Specifier) (line : ℕ) (stars : Stars) (name : List ℕ) (rest : List Lexeme) : Type 0 where
@@ -140,7 +149,7 @@ pub record IsObjects (most : ℕ) (ts : List Lexeme) (words : List Specifier) (l
   pub reads_others : ReadsFurtherDeclarators scopes.File most next others rest
 
 pub objects_not_opened : {most : ℕ} {ts rest vs : List Lexeme} {words : List Specifier} {line : ℕ} {stars : Stars} {name : List ℕ} → (o : IsObjects most ts words line stars name rest) → Next (Punctuator (codes "(")) o.middle vs → ⊥
-objects_not_opened {most} o n = let t = o.reads_tail in tail_not_opened most o.middle t.behind o.sizes o.initial o.others t.reads_dimensions t.reads_initial o.reads_others n
+objects_not_opened {most} {rest = rest} o n = let t = o.reads_tail in tail_not_opened most o.middle t.behind o.sizes o.initial o.others o.next rest t.reads_dimensions t.reads_initial o.reads_others n
 
 pub record HasObjects (most : ℕ) (ts : List Lexeme) (d : Declaration) (rest : List Lexeme) : Type 0 where
   pub line : ℕ

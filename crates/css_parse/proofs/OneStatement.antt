@@ -3,6 +3,7 @@ use Rattle.std.proofs.Common.{◌≡◌, ℕ, ◌-◌, ◌<◌, ◌≤◌, List,
 use Rattle.css_base.specs.Tokens as tokens
 use Rattle.css_base.specs.Tokens.{Kind, Word, Punctuator, Lexeme, Lexemes}
 use Rattle.css_tree.specs.declared.scope.Scope.TheVariants as scopes
+use Rattle.css_tree.specs.declared.words.Specifier.{Specifier}
 use Rattle.css_tree.specs.Syntax as tree
 use Rattle.css_tree.specs.Syntax.{Expression, Declaration, Mark, ForStart, DeclareFirst, EvaluateFirst, Statement, Entry, Entries, MoreEntries}
 use Rattle.css_tree.specs.Parts.{kind_at, line_of, first_line}
@@ -18,11 +19,11 @@ use Rattle.css_parse.proofs.OneDeclaration.{no_specifier, one_optional, one_cond
 
 -- a declaration begins with a specifier
 pub some_specifier : {ts rest : List Lexeme} {d : Declaration} {most : ℕ} → ReadsDeclaration scopes.Block most ts d rest → next_specifier scopes.Block ts ≡ None → ⊥
-some_specifier {ts} {d = d} a none = by d.specifiers a.reads_specifiers.some a.reads_specifiers.takes
+some_specifier {ts} {d = d} a none = by d.specifiers a.behind a.reads_specifiers.some a.reads_specifiers.takes
   where
-    by : (all : List _) {behind : List Lexeme} → 0 < length all → TakesSpecifiers scopes.Block ts all behind → ⊥
-    by [] some takes = absurd (omega arith)
-    by (s ∷ all) some (behind, is, more) = no_specifier is none
+    by : (all : List Specifier) (behind : List Lexeme) → 0 < length all → TakesSpecifiers scopes.Block ts all behind → ⊥
+    by [] behind some takes = absurd (omega arith)
+    by (s ∷ all) rest some (behind, is, more) = no_specifier is none
 
 -- and so no directive does
 pub no_mark_declared : {ts us vs : List Lexeme} {d : Declaration} {m : Mark} {most : ℕ} → ReadsDeclaration scopes.Block most ts d us → ReadsMark ts m vs → ⊥
@@ -31,12 +32,15 @@ no_mark_declared a b =
     let p = n.parts in
     some_specifier a (ap (next_specifier scopes.Block) p ∙ ap (specifier_of scopes.Block) n.is)
 
+abbrev make_mark : ℕ → Lexemes → Mark
+make_mark line words = record { line = line; words = words }
+
 pub one_mark : {ts us vs : List Lexeme} {m n : Mark} → ReadsMark ts m us → ReadsMark ts n vs → (m ≡ n) × (us ≡ vs)
 one_mark {ts} {us} {vs} {m} {n} a b =
     let kinds : tokens.Directive m.words ≡ tokens.Directive n.words = one_kind a.next b.next in
     let words : m.words ≡ n.words = cc in
     let line : m.line ≡ n.line = sym a.line_is ∙ b.line_is in
-    (cc, one_next a.next (subst (λ w. Next (tokens.Directive w) ts vs) (sym words) b.next))
+    (ap (λ x. make_mark x m.words) line ∙ ap (λ x. make_mark n.line x) words, one_next a.next (subst (λ w. Next (tokens.Directive w) ts vs) (sym words) b.next))
 
 pub one_start : (most : ℕ) (ts : List Lexeme) (x y : ForStart) {us vs : List Lexeme} → ReadsForStart most ts x us → ReadsForStart most ts y vs → (x ≡ y) × (us ≡ vs)
 one_start most ts (DeclareFirst c) (DeclareFirst d) a b = let same = one_declaration a b in (ap DeclareFirst same.0, same.1)

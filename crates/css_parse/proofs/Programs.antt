@@ -34,7 +34,7 @@ done_spelled ts done here so = items_spelled done ts here (subst (λ l. ReadsIte
 pub all_spelled : (ts : List Lexeme) (done : List Item) (here : List Lexeme) → AreItemsSoFar ts done here → here ≡ [] → Spells ts done
 all_spelled ts done here so none =
     let s = done_spelled ts done here so in
-    subst (λ l. Spells l done) (sym (s.parts ∙ ap (λ l. s.front ++ l) none ∙ append-nil s.front)) s.spells
+    subst (λ l. Spells l done) (sym (s.parts.parts ∙ ap (λ l. s.front ++ l) none ∙ append-nil s.front)) s.spells
 
 pub unspelled : (ts : List Lexeme) (done : List Item) (here : List Lexeme) (t : Lexeme) (behind : List Lexeme) (line : ℕ) → AreItemsSoFar ts done here → here ≡ t ∷ behind → line ≡ line_of t
     → ((i : Item) (next : List Lexeme) → ReadsItem 500 here i next → ⊥) → IsUnspelledAt ts line
@@ -44,7 +44,7 @@ unspelled ts done here t behind line so is line_is none =
       front = s.front;
       token = t;
       rest = behind;
-      parts = s.parts ∙ ap (λ l. s.front ++ l) is;
+      parts = s.parts.parts ∙ ap (λ l. s.front ++ l) is;
       tree = done;
       spells = s.spells;
       longest = λ more rest other e spells. longest s more rest other e spells;
@@ -61,10 +61,10 @@ unspelled ts done here t behind line so is line_is none =
         first left.0 rest left.1 short
 
     split : (n m : ℕ) → (n < m → ⊥) → m ≤ n
-    split n m no = grind arith
+    split n m other = grind arith
 
     longest : (s : SpelledBefore ts done here) (more rest : List Lexeme) (other : Tree) → ts ≡ more ++ rest → Spells more other → length more ≤ length s.front
     longest s more rest other e spells =
         let far = split (length rest) (length here) (λ short. beyond more rest other e spells short) in
-        let sizes = ap length (sym s.parts ∙ e) in
+        let sizes = ap length (sym s.parts.parts.parts ∙ e) in
         omega (arith, length-append s.front here, length-append more rest)

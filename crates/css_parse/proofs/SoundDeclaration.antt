@@ -1,6 +1,7 @@
 -- Declarations that are read are spelled.
 use Rattle.std.proofs.Common.{◌≡◌, ℕ, ◌+◌, ◌-◌, ◌<◌, ◌≤◌, max, List, [], ◌∷◌, ◌++◌, length, map, All, codes, Option, Some, None, refl, sym, ap, ap₂, ◌∙◌, subst, inl, inr, arith, append_assoc}
 use Rattle.std.proofs.lemmas.List.{map-append}
+use Rattle.std.proofs.lemmas.List.Elements.{All-nil, All-cons}
 use Rattle.css_base.specs.Tokens as tokens
 use Rattle.css_base.specs.Tokens.{Kind, Word, Punctuator, Lexeme, At}
 use Rattle.css_tree.specs.declared.scope.Scope.{Scope}
@@ -28,32 +29,51 @@ use Rattle.css_parse.proofs.Begins.{Begun, begun}
 
 -- ---- fronts
 
-pub led : {ts us front rest : List Lexeme} (t : Lexeme) → ts ≡ t ∷ us → us ≡ front ++ rest → ts ≡ (t ∷ front) ++ rest
-led t e f = e ∙ ap (λ l. t ∷ l) f
+-- A front of some tokens, and the rest.
+pub record Cut (ts front rest : List Lexeme) : Type 0 where
+  pub parts : ts ≡ front ++ rest
 
-pub followed : {ts us vs rest : List Lexeme} (front : List Lexeme) → ts ≡ front ++ us → us ≡ vs ++ rest → ts ≡ (front ++ vs) ++ rest
-followed {vs = vs} {rest} front e f = e ∙ ap (λ l. front ++ l) f ∙ sym (append_assoc front vs rest)
+pub led : {ts us front rest : List Lexeme} (t : Lexeme) → ts ≡ t ∷ us → Cut us front rest → Cut ts (t ∷ front) rest
+led t e f = record { parts = e ∙ ap (λ l. t ∷ l) f.parts }
+
+pub followed : {ts us vs front rest : List Lexeme} → Cut ts front us → Cut us vs rest → Cut ts (front ++ vs) rest
+followed {vs = vs} {front} {rest} e f = record { parts = e.parts ∙ ap (λ l. front ++ l) f.parts ∙ sym (append_assoc front vs rest) }
+
+pub none_before : {ts rest : List Lexeme} → ts ≡ rest → Cut ts [] rest
+none_before e = record { parts = e }
+
+pub one_before : {ts rest : List Lexeme} {t : Lexeme} → ts ≡ t ∷ rest → Cut ts (t ∷ []) rest
+one_before e = record { parts = e }
+
+pub last_one : {rest : List Lexeme} (t : Lexeme) → Cut (t ∷ rest) (t ∷ []) rest
+last_one t = record { parts = refl }
+
+pub cut_at : (front rest : List Lexeme) → Cut (front ++ rest) front rest
+cut_at front rest = record { parts = refl }
 
 -- the first line of some tokens is that of their front
-pub front_line : (ts front rest : List Lexeme) {line : ℕ} → ts ≡ front ++ rest → 0 < length front → first_line ts ≡ line → first_line front ≡ line
-front_line ts [] rest e some line_is = absurd (omega arith)
-front_line ts (t ∷ front) rest e some line_is = sym (ap first_line e) ∙ line_is
+pub front_line : {ts front rest : List Lexeme} {line : ℕ} → Cut ts front rest → 0 < length front → first_line ts ≡ line → first_line front ≡ line
+front_line {ts} {front} {rest} {line} cut some line_is = by front cut.parts some
+  where
+    by : (front : List Lexeme) → ts ≡ front ++ rest → 0 < length front → first_line front ≡ line
+    by [] e some = absurd (omega arith)
+    by (t ∷ front) e some = sym (ap first_line e) ∙ line_is
 
 -- ---- words
 
 pub record SpecifiersBefore (scope : Scope) (ts : List Lexeme) (all : List Specifier) (rest : List Lexeme) : Type 0 where
   pub front : List Lexeme
-  pub parts : ts ≡ front ++ rest
+  pub parts : Cut ts front (rest)
   pub spells : SpellsSpecifiers scope front all
 
 record Taken (scope : Scope) (ts : List Lexeme) (all : List Specifier) (rest : List Lexeme) : Type 0 where
   pub front : List Lexeme
-  pub parts : ts ≡ front ++ rest
+  pub parts : Cut ts front (rest)
   pub words : kinds front ≡ map specifier_kind all
   pub allowed : All (IsAllowed scope) all
 
 taken : (scope : Scope) (ts : List Lexeme) (all : List Specifier) {rest : List Lexeme} → TakesSpecifiers scope ts all rest → Taken scope ts all rest
-taken scope ts [] r = record { front = []; parts = r.0; words = refl; allowed = tt }
+taken scope ts [] r = record { front = []; parts = none_before r.0; words = refl; allowed = All-nil (IsAllowed scope) }
 taken scope ts (s ∷ all) (behind, is, more) =
     let others = taken scope behind all more in
     let what = specifier_is scope (kind_at is.token) s is.is in
@@ -61,7 +81,7 @@ taken scope ts (s ∷ all) (behind, is, more) =
       front = is.token ∷ others.front;
       parts = led is.token is.parts others.parts;
       words = ap₂ ◌∷◌ what.0 others.words;
-      allowed = (what.1, others.allowed);
+      allowed = All-cons (IsAllowed scope) s all what.1 others.allowed;
     }
 
 pub specifiers_spelled : {scope : Scope} {ts rest : List Lexeme} {all : List Specifier} → ReadsSpecifiers scope ts all rest → SpecifiersBefore scope ts all rest
@@ -77,30 +97,38 @@ some_words {ts = ts} {all} s = by ts all s.words s.some
     by [] (s ∷ all) e some = absurd cc
     by (t ∷ ts) all e some = omega arith
 
+pub some_behind_front : (us vs : List Lexeme) → 0 < length vs → 0 < length (us ++ vs)
+some_behind_front [] vs some = some
+some_behind_front (u ∷ us) vs some = omega arith
+
+pub some_front : (us vs : List Lexeme) → 0 < length us → 0 < length (us ++ vs)
+some_front [] vs some = absurd (omega arith)
+some_front (u ∷ us) vs some = omega arith
+
 record QualifiersBefore (ts : List Lexeme) (all : List Qualifier) (rest : List Lexeme) : Type 0 where
   pub front : List Lexeme
-  pub parts : ts ≡ front ++ rest
+  pub parts : Cut ts front (rest)
   pub words : kinds front ≡ map qualifier_kind all
 
 qualifiers_taken : (ts : List Lexeme) (all : List Qualifier) {rest : List Lexeme} → TakesQualifiers ts all rest → QualifiersBefore ts all rest
-qualifiers_taken ts [] r = record { front = []; parts = r.0; words = refl }
+qualifiers_taken ts [] r = record { front = []; parts = none_before r.0; words = refl }
 qualifiers_taken ts (q ∷ all) (behind, is, more) =
     let others = qualifiers_taken behind all more in
     record { front = is.token ∷ others.front; parts = led is.token is.parts others.parts; words = ap₂ ◌∷◌ (qualifier_is (kind_at is.token) q is.is) others.words }
 
 pub record StarsBefore (ts : List Lexeme) (all : Stars) (rest : List Lexeme) : Type 0 where
   pub front : List Lexeme
-  pub parts : ts ≡ front ++ rest
+  pub parts : Cut ts front (rest)
   pub spells : SpellsStars front all
 
 pub stars_spelled : (ts : List Lexeme) (all : Stars) {rest : List Lexeme} → ReadsStars ts all rest → StarsBefore ts all rest
-stars_spelled ts [] r = record { front = []; parts = r.0; spells = refl }
+stars_spelled ts [] r = record { front = []; parts = none_before r.0; spells = refl }
 stars_spelled ts (star ∷ stars) (behind, next, n, q, more) =
     let here = qualifiers_taken behind star q in
     let others = stars_spelled next stars more in
     record {
       front = n.token ∷ (here.front ++ others.front);
-      parts = led n.token n.parts (followed here.front here.parts others.parts);
+      parts = led n.token n.parts (followed here.parts others.parts);
       spells = ap₂ ◌∷◌ n.is (map-append kind_at here.front others.front ∙ ap₂ ◌++◌ here.words others.spells);
     }
 
@@ -110,23 +138,25 @@ stars_spelled ts (star ∷ stars) (behind, next, n, q, more) =
 pub record OptionalBefore (scope : Scope) (level : Level) (close : List ℕ) (most : ℕ) (ts : List Lexeme) (value : Option Expression) (rest : List Lexeme) : Type 0 where
   pub front : List Lexeme
   pub token : Lexeme
-  pub parts : ts ≡ front ++ token ∷ rest
+  pub parts : Cut ts front (token ∷ rest)
   pub is : kind_at token ≡ Punctuator close
   pub spells : SpellsOptional scope (level_number level) front value
   pub low : height_of_optional value ≤ most
 
 pub optional_spelled : (scope : Scope) (level : Level) (close : List ℕ) (most : ℕ) (ts : List Lexeme) (value : Option Expression) {rest : List Lexeme} → ReadsOptional scope level close most ts value rest → OptionalBefore scope level close most ts value rest
-optional_spelled scope level close most ts None n = record { front = []; token = n.token; parts = n.parts; is = n.is; spells = refl; low = omega arith }
+optional_spelled scope level close most ts None n = record { front = []; token = n.token; parts = none_before n.parts; is = n.is; spells = refl; low = omega arith }
 optional_spelled scope level close most ts (Some e) (behind, none, r, n) =
     let l = r.longest in
-    record { front = l.front; token = n.token; parts = l.parts ∙ ap (λ z. l.front ++ z) n.parts; is = n.is; spells = l.spells; low = r.low }
+    record { front = l.front; token = n.token; parts = record { parts = l.parts ∙ ap (λ z. l.front ++ z) n.parts }; is = n.is; spells = l.spells; low = r.low }
 
 -- an expression in parentheses
 pub record ConditionBefore (most : ℕ) (ts : List Lexeme) (e : Expression) (rest : List Lexeme) : Type 0 where
   pub opening : Lexeme
+  pub inside : List Lexeme
+  pub first : ts ≡ opening ∷ inside
   pub front : List Lexeme
   pub closing : Lexeme
-  pub parts : ts ≡ opening ∷ (front ++ closing ∷ rest)
+  pub parts : Cut inside front (closing ∷ rest)
   pub opens : kind_at opening ≡ Punctuator (codes "(")
   pub closes : kind_at closing ≡ Punctuator (codes ")")
   pub spells : SpellsExpression scopes.Block (level_number levels.Expr) front e
@@ -137,9 +167,11 @@ condition_spelled (inside, behind, n, r, c) =
     let l = r.longest in
     record {
       opening = n.token;
+      inside = inside;
+      first = n.parts;
       front = l.front;
       closing = c.token;
-      parts = n.parts ∙ ap (λ z. n.token ∷ z) (l.parts ∙ ap (λ z. l.front ++ z) c.parts);
+      parts = record { parts = l.parts ∙ ap (λ z. l.front ++ z) c.parts };
       opens = n.is;
       closes = c.is;
       spells = l.spells;
@@ -150,12 +182,12 @@ condition_spelled (inside, behind, n, r, c) =
 
 pub record DimensionsBefore (scope : Scope) (most : ℕ) (ts : List Lexeme) (sizes : Dimensions) (rest : List Lexeme) : Type 0 where
   pub front : List Lexeme
-  pub parts : ts ≡ front ++ rest
+  pub parts : Cut ts front (rest)
   pub spells : SpellsDimensions scope front sizes
   pub low : height_of_dimensions sizes ≤ most
 
 pub dimensions_spelled : (scope : Scope) (most : ℕ) (ts : List Lexeme) (sizes : Dimensions) {rest : List Lexeme} → ReadsDimensions scope most ts sizes rest → DimensionsBefore scope most ts sizes rest
-dimensions_spelled scope most ts [] r = record { front = []; parts = r.0; spells = refl; low = omega arith }
+dimensions_spelled scope most ts [] r = record { front = []; parts = none_before r.0; spells = refl; low = omega arith }
 dimensions_spelled scope most ts (size ∷ sizes) (inside, behind, n, r, more) =
     let here = optional_spelled scope levels.Cond (codes "]") most inside size r in
     let others = dimensions_spelled scope most behind sizes more in
@@ -163,14 +195,14 @@ dimensions_spelled scope most ts (size ∷ sizes) (inside, behind, n, r, more) =
     let b = others.low in
     record {
       front = n.token ∷ (here.front ++ here.token ∷ others.front);
-      parts = led n.token n.parts (followed here.front here.parts (led here.token refl others.parts));
+      parts = led n.token n.parts (followed here.parts (led here.token refl others.parts));
       spells = (here.front, others.front, (n.token, _, refl, n.is, (_, refl, (here.token, _, refl, here.is, refl))), here.spells, others.spells);
       low = omega arith;
     }
 
 pub record InitialiserBefore (scope : Scope) (most : ℕ) (ts : List Lexeme) (i : Initialiser) (rest : List Lexeme) : Type 0 where
   pub front : List Lexeme
-  pub parts : ts ≡ front ++ rest
+  pub parts : Cut ts front (rest)
   pub spells : SpellsInitialiser scope front i
   pub low : height_of_initialiser i ≤ most
 
@@ -206,7 +238,7 @@ record PartsBefore (scope : Scope) (most : ℕ) (ts : List Lexeme) (parts_are : 
   pub front : List Lexeme
   pub comma : List Lexeme
   pub token : Lexeme
-  pub parts : ts ≡ front ++ (comma ++ token ∷ rest)
+  pub parts : Cut ts front ((comma ++ token ∷ rest))
   pub is : kind_at token ≡ Punctuator (codes "}")
   pub spells : SpellsParts scope front parts_are
   pub optional : IsOptionalComma comma
@@ -216,7 +248,7 @@ record FurtherPartsBefore (scope : Scope) (most : ℕ) (ts : List Lexeme) (parts
   pub front : List Lexeme
   pub comma : List Lexeme
   pub token : Lexeme
-  pub parts : ts ≡ front ++ (comma ++ token ∷ rest)
+  pub parts : Cut ts front ((comma ++ token ∷ rest))
   pub is : kind_at token ≡ Punctuator (codes "}")
   pub spells : SpellsFurtherParts scope front parts_are
   pub optional : IsOptionalComma comma
@@ -230,7 +262,7 @@ mutual
   pub initialiser_spelled : {scope : Scope} {most : ℕ} {ts : List Lexeme} {i : Initialiser} {rest : List Lexeme} → ReadsInitialiser scope most ts i rest → InitialiserBefore scope most ts i rest
   initialiser_spelled {scope} {rest = rest} (reads.Valued e none l is low) = record {
     front = l.front;
-    parts = l.parts;
+    parts = record { parts = l.parts };
     spells = subst (λ z. SpellsInitialiser scope l.front z) (sym (is ∙ ap (λ z. valued z e) l.parts)) (valued_spelled scope l.front rest e l.spells);
     low = low;
   }
@@ -238,7 +270,7 @@ mutual
       let x = parts_spelled q in
       record {
         front = n.token ∷ (x.front ++ (x.comma ++ x.token ∷ []));
-        parts = led n.token n.parts (followed x.front x.parts (followed x.comma refl (led {front = []} x.token refl refl)));
+        parts = led n.token n.parts (followed x.parts (followed (cut_at x.comma (x.token ∷ _)) (last_one x.token)));
         spells = (x.front, x.comma, (n.token, _, refl, n.is, (_, refl, (_, refl, (x.token, [], refl, x.is, refl)))), sym (ap first_line n.parts) ∙ line, x.spells, x.optional);
         low = x.low;
       }
@@ -253,7 +285,7 @@ mutual
         front = x.front ++ y.front;
         comma = y.comma;
         token = y.token;
-        parts = followed x.front x.parts y.parts;
+        parts = followed x.parts y.parts;
         is = y.is;
         spells = (x.front, y.front, (_, refl, refl), x.spells, y.spells);
         optional = y.optional;
@@ -261,12 +293,12 @@ mutual
       }
 
   further_parts_spelled : {scope : Scope} {most : ℕ} {ts : List Lexeme} {parts_are : Initialisers} {rest : List Lexeme} → ReadsFurtherParts scope most ts parts_are rest → FurtherPartsBefore scope most ts parts_are rest
-  further_parts_spelled (reads.Closed n) = record { front = []; comma = []; token = n.token; parts = n.parts; is = n.is; spells = refl; optional = inl refl; low = omega arith }
+  further_parts_spelled (reads.Closed n) = record { front = []; comma = []; token = n.token; parts = none_before n.parts; is = n.is; spells = refl; optional = inl refl; low = omega arith }
   further_parts_spelled (reads.ClosedBehindComma behind c n) = record {
     front = [];
     comma = c.token ∷ [];
     token = n.token;
-    parts = c.parts ∙ ap (λ l. c.token ∷ l) n.parts;
+    parts = none_before (c.parts ∙ ap (λ l. c.token ∷ l) n.parts);
     is = n.is;
     spells = refl;
     optional = inr (c.token, [], refl, c.is, refl);
@@ -287,12 +319,12 @@ mutual
 
 pub record InitialBefore (scope : Scope) (most : ℕ) (ts : List Lexeme) (i : Option Initialiser) (rest : List Lexeme) : Type 0 where
   pub front : List Lexeme
-  pub parts : ts ≡ front ++ rest
+  pub parts : Cut ts front (rest)
   pub spells : SpellsInitial scope front i
   pub low : height_of_initial i ≤ most
 
 pub initial_spelled : (scope : Scope) (most : ℕ) (ts : List Lexeme) (i : Option Initialiser) {rest : List Lexeme} → ReadsInitial scope most ts i rest → InitialBefore scope most ts i rest
-initial_spelled scope most ts None r = record { front = []; parts = r.0; spells = refl; low = omega arith }
+initial_spelled scope most ts None r = record { front = []; parts = none_before r.0; spells = refl; low = omega arith }
 initial_spelled scope most ts (Some i) (behind, n, r) =
     let here = initialiser_spelled r in
     record {
@@ -304,7 +336,7 @@ initial_spelled scope most ts (Some i) (behind, n, r) =
 
 pub record DeclaratorBefore (scope : Scope) (most : ℕ) (ts : List Lexeme) (d : Declarator) (rest : List Lexeme) : Type 0 where
   pub front : List Lexeme
-  pub parts : ts ≡ front ++ rest
+  pub parts : Cut ts front (rest)
   pub spells : SpellsDeclarator scope front d
   pub low : height_of_declarator d ≤ most
   pub some : 0 < length front
@@ -321,7 +353,7 @@ declarator_spelled {scope} {most} {ts} {rest} {d} r =
     let initial = initial_spelled scope most r.tail.behind d.initialiser r.tail.reads_initial in
     let word = name.word in
     let front = stars.front ++ word.token ∷ (sizes.front ++ initial.front) in
-    let parts = followed stars.front stars.parts (led word.token word.parts (followed sizes.front sizes.parts initial.parts)) in
+    let parts = followed stars.parts (led word.token word.parts (followed sizes.parts initial.parts)) in
     let a = sizes.low in
     let b = initial.low in
     let some = some_behind stars.front word.token (sizes.front ++ initial.front) in
@@ -333,7 +365,7 @@ declarator_spelled {scope} {most} {ts} {rest} {d} r =
         dimensions = sizes.front;
         initial = initial.front;
         parts = (_, refl, (word.token, _, refl, word.is, (_, refl, refl)));
-        line_is = front_line ts front rest parts some r.line_is;
+        line_is = front_line parts some r.line_is;
         spells_stars = stars.spells;
         named = name.named;
         spells_dimensions = sizes.spells;
@@ -347,13 +379,13 @@ declarator_spelled {scope} {most} {ts} {rest} {d} r =
 pub record FurtherBefore (scope : Scope) (most : ℕ) (ts : List Lexeme) (ds : List Declarator) (rest : List Lexeme) : Type 0 where
   pub front : List Lexeme
   pub token : Lexeme
-  pub parts : ts ≡ front ++ token ∷ rest
+  pub parts : Cut ts front (token ∷ rest)
   pub is : kind_at token ≡ Punctuator (codes ";")
   pub spells : SpellsBehindCommas (SpellsDeclarator scope) front ds
   pub low : height_of_declarators ds ≤ most
 
 further_spelled : (scope : Scope) (most : ℕ) (ts : List Lexeme) (ds : List Declarator) {rest : List Lexeme} → ReadsFurtherDeclarators scope most ts ds rest → FurtherBefore scope most ts ds rest
-further_spelled scope most ts [] n = record { front = []; token = n.token; parts = n.parts; is = n.is; spells = refl; low = omega arith }
+further_spelled scope most ts [] n = record { front = []; token = n.token; parts = none_before n.parts; is = n.is; spells = refl; low = omega arith }
 further_spelled scope most ts (d ∷ ds) (behind, next, n, r, more) =
     let here = declarator_spelled r in
     let others = further_spelled scope most next ds more in
@@ -362,7 +394,7 @@ further_spelled scope most ts (d ∷ ds) (behind, next, n, r, more) =
     record {
       front = n.token ∷ (here.front ++ others.front);
       token = others.token;
-      parts = led n.token n.parts (followed here.front here.parts others.parts);
+      parts = led n.token n.parts (followed here.parts others.parts);
       is = others.is;
       spells = (here.front, others.front, (n.token, _, refl, n.is, (_, refl, refl)), here.spells, others.spells);
       low = omega arith;
@@ -370,14 +402,15 @@ further_spelled scope most ts (d ∷ ds) (behind, next, n, r, more) =
 
 pub record DeclarationBefore (scope : Scope) (most : ℕ) (ts : List Lexeme) (d : Declaration) (rest : List Lexeme) : Type 0 where
   pub front : List Lexeme
-  pub parts : ts ≡ front ++ rest
+  pub parts : Cut ts front (rest)
   pub spells : SpellsDeclaration scope front d
   pub low : height_of_declaration d ≤ most
+  pub some : 0 < length front
 
 record DeclaratorsBefore (scope : Scope) (most : ℕ) (ts : List Lexeme) (ds : List Declarator) (rest : List Lexeme) : Type 0 where
   pub front : List Lexeme
   pub token : Lexeme
-  pub parts : ts ≡ front ++ token ∷ rest
+  pub parts : Cut ts front (token ∷ rest)
   pub is : kind_at token ≡ Punctuator (codes ";")
   pub spells : SpellsBetweenCommas (SpellsDeclarator scope) front ds
   pub low : height_of_declarators ds ≤ most
@@ -392,7 +425,7 @@ declarators_spelled scope most ts (d ∷ ds) (next, r, more) =
     record {
       front = here.front ++ others.front;
       token = others.token;
-      parts = followed here.front here.parts others.parts;
+      parts = followed here.parts others.parts;
       is = others.is;
       spells = (here.front, others.front, (_, refl, refl), here.spells, others.spells);
       low = omega arith;
@@ -403,7 +436,7 @@ declaration_spelled {scope} {most} {ts} {rest} {d} r =
     let words = specifiers_spelled r.reads_specifiers in
     let others = declarators_spelled scope (most - 1) r.behind d.declarators r.reads_declarators in
     let front = words.front ++ (others.front ++ others.token ∷ []) in
-    let parts = followed words.front words.parts (followed others.front others.parts (led {front = []} others.token refl refl)) in
+    let parts = followed words.parts (followed others.parts (last_one others.token)) in
     let some = some_words words.spells in
     let longer : 0 < length front = some_front words.front (others.front ++ others.token ∷ []) some in
     let a = others.low in
@@ -415,13 +448,10 @@ declaration_spelled {scope} {most} {ts} {rest} {d} r =
         specifiers = words.front;
         declarators = others.front;
         parts = (_, refl, (_, refl, (others.token, [], refl, others.is, refl)));
-        line_is = front_line ts front rest parts longer r.line_is;
+        line_is = front_line parts longer r.line_is;
         spells_specifiers = words.spells;
         spells_declarators = others.spells;
       };
       low = omega arith;
+      some = longer;
     }
-  where
-    some_front : (us vs : List Lexeme) → 0 < length us → 0 < length (us ++ vs)
-    some_front [] vs some = absurd (omega arith)
-    some_front (u ∷ us) vs some = omega arith

@@ -16,7 +16,7 @@ use Rattle.css_parse.specs.Forms.{form_of}
 use Rattle.css_parse.specs.Readings as reads
 use Rattle.css_parse.specs.Readings.{ReadsMark, ReadsForStart, ReadsForHead, ReadsStatement, ReadsForm, ReadsEntries, ReadsEntry}
 use Rattle.css_parse.proofs.FormKinds.{form_kind, form_is}
-use Rattle.css_parse.proofs.SoundDeclaration.{led, followed, front_line, optional_spelled, condition_spelled, declaration_spelled}
+use Rattle.css_parse.proofs.SoundDeclaration.{Cut, led, followed, none_before, one_before, last_one, front_line, optional_spelled, condition_spelled, declaration_spelled}
 
 -- a statement that was read before an `else` doesn't take it
 mutual
@@ -37,17 +37,17 @@ mutual
 
 pub record MarkBefore (ts : List Lexeme) (m : Mark) (rest : List Lexeme) : Type 0 where
   pub front : List Lexeme
-  pub parts : ts ≡ front ++ rest
+  pub parts : Cut ts front (rest)
   pub spells : SpellsMark front m
 
 pub mark_spelled : {ts rest : List Lexeme} {m : Mark} → ReadsMark ts m rest → MarkBefore ts m rest
 mark_spelled {ts} r =
     let n = r.next in
-    record { front = n.token ∷ []; parts = n.parts; spells = record { is = (n.token, [], refl, n.is, refl); line_is = sym (ap first_line n.parts) ∙ r.line_is } }
+    record { front = n.token ∷ []; parts = one_before n.parts; spells = record { is = (n.token, [], refl, n.is, refl); line_is = sym (ap first_line n.parts) ∙ r.line_is } }
 
 record StartBefore (most : ℕ) (ts : List Lexeme) (start : ForStart) (rest : List Lexeme) : Type 0 where
   pub front : List Lexeme
-  pub parts : ts ≡ front ++ rest
+  pub parts : Cut ts front (rest)
   pub spells : SpellsForStart front start
   pub low : height_of_start start ≤ most
 
@@ -57,35 +57,35 @@ start_spelled most ts (EvaluateFirst value) r =
     let x = optional_spelled scopes.Block levels.Expr (codes ";") most ts value r.1 in
     record {
       front = x.front ++ x.token ∷ [];
-      parts = followed x.front x.parts (led {front = []} x.token refl refl);
+      parts = followed x.parts (last_one x.token);
       spells = (x.front, (_, refl, (x.token, [], refl, x.is, refl)), x.spells);
       low = x.low;
     }
 
 pub record StatementBefore (most : ℕ) (ts : List Lexeme) (s : Statement) (rest : List Lexeme) : Type 0 where
   pub front : List Lexeme
-  pub parts : ts ≡ front ++ rest
+  pub parts : Cut ts front (rest)
   pub spells : SpellsStatement front s
   pub low : height_of_statement s ≤ most
 
 -- a statement behind its first token
 record FormBefore (f : Form) (most line : ℕ) (ts : List Lexeme) (s : Statement) (rest : List Lexeme) : Type 0 where
   pub front : List Lexeme
-  pub parts : ts ≡ front ++ rest
+  pub parts : Cut ts front (rest)
   pub spells : (t : Lexeme) → kind_at t ≡ form_kind f → line_of t ≡ line → SpellsStatement (t ∷ front) s
   pub low : height_of_statement s ≤ 1 + most
 
 pub record EntriesBefore (most : ℕ) (ts : List Lexeme) (entries : Entries) (rest : List Lexeme) : Type 0 where
   pub front : List Lexeme
   pub token : Lexeme
-  pub parts : ts ≡ front ++ token ∷ rest
+  pub parts : Cut ts front (token ∷ rest)
   pub is : kind_at token ≡ Punctuator (codes "}")
   pub spells : SpellsEntries front entries
   pub low : height_of_entries entries ≤ most
 
 record EntryBefore (most : ℕ) (ts : List Lexeme) (e : Entry) (rest : List Lexeme) : Type 0 where
   pub front : List Lexeme
-  pub parts : ts ≡ front ++ rest
+  pub parts : Cut ts front (rest)
   pub spells : SpellsEntry front e
   pub low : height_of_entry e ≤ most
 
@@ -99,11 +99,11 @@ mutual
       let x = optional_spelled scopes.Block levels.Expr (codes ";") (most - 1) ts value v in
       let low = x.low in
       let front = x.front ++ x.token ∷ [] in
-      let all : ts ≡ front ++ rest = followed x.front x.parts (led {front = []} x.token refl refl) in
+      let all : Cut ts front rest = followed x.parts (last_one x.token) in
       record {
         front = front;
         parts = all;
-        spells = (x.front, (_, refl, (x.token, [], refl, x.is, refl)), front_line ts front rest all (some_last x.front x.token) (ap first_line parts ∙ sym line), x.spells);
+        spells = (x.front, (_, refl, (x.token, [], refl, x.is, refl)), front_line all (some_last x.front x.token) (ap first_line parts ∙ sym line), x.spells);
         low = omega arith;
       }
     where
@@ -117,7 +117,7 @@ mutual
       let low = x.low in
       record {
         front = x.front ++ x.token ∷ [];
-        parts = followed x.front x.parts (led {front = []} x.token refl refl);
+        parts = followed x.parts (last_one x.token);
         spells = λ t kind line. (x.front, (t, _, refl, kind, (_, refl, (x.token, [], refl, x.is, refl))), line, x.spells);
         low = omega arith;
       }
@@ -128,7 +128,7 @@ mutual
       let b = y.low in
       record {
         front = x.opening ∷ (x.front ++ x.closing ∷ y.front);
-        parts = led x.opening x.parts (followed x.front refl (led x.closing refl y.parts));
+        parts = led x.opening x.first (followed x.parts (led x.closing refl y.parts));
         spells = λ t kind line.
         (x.front, y.front, (t, _, refl, kind, (x.opening, _, refl, x.opens, (_, refl, (x.closing, _, refl, x.closes, refl)))), line, x.spells, y.spells);
         low = omega arith;
@@ -142,7 +142,7 @@ mutual
       let d = z.low in
       record {
         front = x.opening ∷ (x.front ++ x.closing ∷ (y.front ++ n.token ∷ z.front));
-        parts = led x.opening x.parts (followed x.front refl (led x.closing refl (followed y.front y.parts (led n.token n.parts z.parts))));
+        parts = led x.opening x.first (followed x.parts (led x.closing refl (followed y.parts (led n.token n.parts z.parts))));
         spells = λ t kind line.
         (x.front, y.front, z.front, (t, _, refl, kind, (x.opening, _, refl, x.opens, (_, refl, (x.closing, _, refl, x.closes, (_, refl, (n.token, _, refl, n.is, refl)))))), line, x.spells, y.spells, takes_no_else r n, z.spells);
         low = omega arith;
@@ -154,7 +154,7 @@ mutual
       let b = y.low in
       record {
         front = x.opening ∷ (x.front ++ x.closing ∷ y.front);
-        parts = led x.opening x.parts (followed x.front refl (led x.closing refl y.parts));
+        parts = led x.opening x.first (followed x.parts (led x.closing refl y.parts));
         spells = λ t kind line.
         (x.front, y.front, (t, _, refl, kind, (x.opening, _, refl, x.opens, (_, refl, (x.closing, _, refl, x.closes, refl)))), line, x.spells, y.spells);
         low = omega arith;
@@ -166,7 +166,7 @@ mutual
       let b = y.low in
       record {
         front = y.front ++ n.token ∷ (x.opening ∷ (x.front ++ x.closing ∷ (e.token ∷ [])));
-        parts = followed y.front y.parts (led n.token n.parts (led x.opening x.parts (followed x.front refl (led x.closing refl (led {front = []} e.token e.parts refl)))));
+        parts = followed y.parts (led n.token n.parts (led x.opening x.first (followed x.parts (led x.closing refl (one_before e.parts)))));
         spells = λ t kind line.
         (y.front, x.front, (t, _, refl, kind, (_, refl, (n.token, _, refl, n.is, (x.opening, _, refl, x.opens, (_, refl, (x.closing, _, refl, x.closes, (e.token, [], refl, e.is, refl))))))), line, y.spells, x.spells);
         low = omega arith;
@@ -183,20 +183,20 @@ mutual
       let e = y.low in
       record {
         front = n.token ∷ (i.front ++ (j.front ++ j.token ∷ (k.front ++ k.token ∷ y.front)));
-        parts = led n.token n.parts (followed i.front i.parts (followed j.front j.parts (led j.token refl (followed k.front k.parts (led k.token refl y.parts)))));
+        parts = led n.token n.parts (followed i.parts (followed j.parts (led j.token refl (followed k.parts (led k.token refl y.parts)))));
         spells = λ t kind line.
         (i.front, j.front, k.front, y.front, (t, _, refl, kind, (n.token, _, refl, n.is, (_, refl, (_, refl, (j.token, _, refl, j.is, (_, refl, (k.token, _, refl, k.is, refl))))))), line, i.spells, j.spells, k.spells, y.spells);
         low = omega arith;
       }
   form_spelled f (reads.Break n) = record {
     front = n.token ∷ [];
-    parts = n.parts;
+    parts = one_before n.parts;
     spells = λ t kind line. ((t, _, refl, kind, (n.token, [], refl, n.is, refl)), line);
     low = omega arith;
   }
   form_spelled f (reads.Continue n) = record {
     front = n.token ∷ [];
-    parts = n.parts;
+    parts = one_before n.parts;
     spells = λ t kind line. ((t, _, refl, kind, (n.token, [], refl, n.is, refl)), line);
     low = omega arith;
   }
@@ -205,13 +205,13 @@ mutual
       let low = x.low in
       record {
         front = x.front ++ x.token ∷ [];
-        parts = followed x.front x.parts (led {front = []} x.token refl refl);
+        parts = followed x.parts (last_one x.token);
         spells = λ t kind line. (x.front, (t, _, refl, kind, (_, refl, (x.token, [], refl, x.is, refl))), line, x.spells);
         low = omega arith;
       }
 
   pub entries_spelled : {most : ℕ} {ts rest : List Lexeme} {es : Entries} → ReadsEntries most ts es rest → EntriesBefore most ts es rest
-  entries_spelled (reads.Closed n) = record { front = []; token = n.token; parts = n.parts; is = n.is; spells = refl; low = omega arith }
+  entries_spelled (reads.Closed n) = record { front = []; token = n.token; parts = none_before n.parts; is = n.is; spells = refl; low = omega arith }
   entries_spelled (reads.More behind none r more) =
       let x = entry_spelled r in
       let y = entries_spelled more in
@@ -220,7 +220,7 @@ mutual
       record {
         front = x.front ++ y.front;
         token = y.token;
-        parts = followed x.front x.parts y.parts;
+        parts = followed x.parts y.parts;
         is = y.is;
         spells = (x.front, y.front, (_, refl, refl), x.spells, y.spells);
         low = omega arith;

@@ -4,6 +4,8 @@ use Rattle.std.specs.Prelude.{option_and_then}
 use Rattle.css_base.specs.Tokens as tokens
 use Rattle.css_base.specs.Tokens.{Kind, Word, Punctuator, Lexeme}
 use Rattle.css_tree.specs.declared.scope.Scope.{Scope}
+use Rattle.css_tree.specs.declared.words.Specifier.{Specifier}
+use Rattle.css_tree.specs.declared.words.Qualifier.{Qualifier}
 use Rattle.css_tree.specs.declared.operators.UnaryOperator.{UnaryOperator}
 use Rattle.css_tree.specs.declared.operators.UnaryOperator.TheVariants as unaries
 use Rattle.css_tree.specs.declared.operators.BinaryOperator.{BinaryOperator}
@@ -14,25 +16,25 @@ use Rattle.css_tree.specs.Syntax.{TypeName, Expression, Expressions}
 use Rattle.css_tree.specs.Parts.{kind_at, kinds, Part, One, These, mark, word, Are}
 use Rattle.css_tree.specs.Words.{SpellsTypeName, specifier_kind, qualifier_kind, stars_kinds}
 use Rattle.css_tree.specs.Expressions as spelled
-use Rattle.css_tree.specs.Expressions.{expr, assign, cond, level_of, unary_text, binary_text, assign_text, SpellsExpression, SpellsArguments, SpellsFurther}
+use Rattle.css_tree.specs.Expressions.{expr, assign, cond, lor, unary, postfix, level_of, unary_text, binary_text, assign_text, SpellsExpression, SpellsArguments, SpellsFurther}
 use Rattle.css_pexpr.specs.declared.level.Level.{Level}
 use Rattle.css_pexpr.specs.declared.level.Level.TheVariants as levels
 use Rattle.css_pexpr.specs.Longest.{IsLongest, level_number}
 
 -- ---- how deep a token stands in what has to be closed
 
-previous : ℕ → Option ℕ
+abbrev pub previous : ℕ → Option ℕ
 previous zero = None
 previous (suc n) = Some n
 
 -- a comma is allowed where something is open
-if_open : ℕ → Option ℕ
+abbrev pub if_open : ℕ → Option ℕ
 if_open zero = None
 if_open (suc n) = Some (suc n)
 
 -- behind a punctuator, where commas outside brackets are allowed or not: what closes needs something open, and some
 -- punctuators stand in no expression
-abbrev mark_step : Bool → ℕ → List ℕ → Option ℕ
+abbrev pub mark_step : Bool → ℕ → List ℕ → Option ℕ
 mark_step commas n bytes =
     if bytes_eq bytes (codes "(") || bytes_eq bytes (codes "[") || bytes_eq bytes (codes "?") then Some (suc n)
     else (if bytes_eq bytes (codes ")") || bytes_eq bytes (codes "]") || bytes_eq bytes (codes ":") then previous n
@@ -47,41 +49,29 @@ abbrev walk : Bool → ℕ → List Lexeme → Option ℕ
 walk commas n [] = Some n
 walk commas n (t ∷ ts) = option_and_then (λ m. walk commas m ts) (step commas n (kind_at t))
 
-abbrev walk_parts : Bool → ℕ → List Part → Option ℕ
-walk_parts commas n [] = Some n
-walk_parts commas n (One kind ∷ parts) = option_and_then (λ m. walk_parts commas m parts) (step commas n kind)
-walk_parts commas n (These us ∷ parts) = option_and_then (λ m. walk_parts commas m parts) (walk commas n us)
+-- the tokens lead from one depth to another
+record Walks (commas : Bool) (n : ℕ) (ts : List Lexeme) (m : ℕ) : Type 0 where
+  pub is : walk commas n ts ≡ Some m
 
-bind_is : {o r : Option ℕ} {f : ℕ → Option ℕ} {m : ℕ} → o ≡ Some m → f m ≡ r → option_and_then f o ≡ r
-bind_is {f = f} e h = ap (option_and_then f) e ∙ h
+walked_on : (commas : Bool) (n : ℕ) (us vs : List Lexeme) {m : ℕ} → walk commas n us ≡ Some m → walk commas n (us ++ vs) ≡ walk commas m vs
+walked_on commas n [] vs {m} e = (let same : n ≡ m = cc in ap (λ k. walk commas k vs) same)
+walked_on commas n (u ∷ us) vs {m} e = by (step commas n (kind_at u)) e
+  where
+    by : (o : Option ℕ) → option_and_then (λ l. walk commas l us) o ≡ Some m → option_and_then (λ l. walk commas l (us ++ vs)) o ≡ walk commas m vs
+    by None e = absurd cc
+    by (Some l) e = walked_on commas l us vs e
 
-bind_bind : (o : Option ℕ) (f g : ℕ → Option ℕ) → option_and_then g (option_and_then f o) ≡ option_and_then (λ m. option_and_then g (f m)) o
-bind_bind None f g = refl
-bind_bind (Some m) f g = refl
+data WalksParts (commas : Bool) : (n : ℕ) (parts : List Part) (m : ℕ) → Type 0 where
+  Done : {n : ℕ} → WalksParts commas n [] n
+  At : {n m l : ℕ} {kind : Kind} {parts : List Part} → step commas n kind ≡ Some m → WalksParts commas m parts l → WalksParts commas n (One kind ∷ parts) l
+  Over : {n m l : ℕ} {us : List Lexeme} {parts : List Part} → Walks commas n us m → WalksParts commas m parts l → WalksParts commas n (These us ∷ parts) l
 
-bind_same : (o : Option ℕ) (f g : ℕ → Option ℕ) → ((m : ℕ) → f m ≡ g m) → option_and_then f o ≡ option_and_then g o
-bind_same None f g h = refl
-bind_same (Some m) f g h = h m
-
-bind_some : (o : Option ℕ) → option_and_then (λ m. Some m) o ≡ o
-bind_some None = refl
-bind_some (Some m) = refl
-
-walk-append : (commas : Bool) (n : ℕ) (us vs : List Lexeme) → walk commas n (us ++ vs) ≡ option_and_then (λ m. walk commas m vs) (walk commas n us)
-walk-append commas n [] vs = refl
-walk-append commas n (u ∷ us) vs =
-    bind_same (step commas n (kind_at u)) (λ m. walk commas m (us ++ vs)) (λ m. option_and_then (λ l. walk commas l vs) (walk commas m us)) (λ m. walk-append commas m us vs)
-    ∙ sym (bind_bind (step commas n (kind_at u)) (λ m. walk commas m us) (λ m. walk commas m vs))
-
-are_walked : (commas : Bool) (n : ℕ) (ts : List Lexeme) (parts : List Part) → Are ts parts → walk commas n ts ≡ walk_parts commas n parts
-are_walked commas n ts [] a = ap (walk commas n) a
-are_walked commas n ts (These us ∷ []) a = ap (walk commas n) a ∙ sym (bind_some (walk commas n us))
-are_walked commas n ts (These us ∷ part ∷ parts) (rest, e, a) =
-    ap (walk commas n) e ∙ walk-append commas n us rest
-    ∙ bind_same (walk commas n us) (λ m. walk commas m rest) (λ m. walk_parts commas m (part ∷ parts)) (λ m. are_walked commas m rest (part ∷ parts) a)
-are_walked commas n ts (One kind ∷ parts) (token, rest, e, is, a) =
-    ap (walk commas n) e ∙ ap (λ k. option_and_then (λ m. walk commas m rest) (step commas n k)) is
-    ∙ bind_same (step commas n kind) (λ m. walk commas m rest) (λ m. walk_parts commas m parts) (λ m. are_walked commas m rest parts a)
+are_walked : {commas : Bool} {n m : ℕ} {ts : List Lexeme} (parts : List Part) → Are ts parts → WalksParts commas n parts m → Walks commas n ts m
+are_walked {commas} {n} [] a Done = record { is = ap (walk commas n) a }
+are_walked {commas} {n} (These us ∷ []) a (Over w Done) = record { is = ap (walk commas n) a ∙ w.is }
+are_walked {commas} {n} (These us ∷ part ∷ parts) (rest, e, a) (Over w more) = record { is = ap (walk commas n) e ∙ walked_on commas n us rest w.is ∙ (are_walked (part ∷ parts) a more).is }
+are_walked {commas} {n} (One kind ∷ parts) (token, rest, e, is, a) (At {m = m} s more) =
+    record { is = ap (walk commas n) e ∙ ap (option_and_then (λ k. walk commas k rest)) (ap (step commas n) is ∙ s) ∙ (are_walked parts a more).is }
 
 -- ---- operators
 
@@ -128,36 +118,41 @@ unary_step commas n unaries.Not = refl
 
 -- ---- types
 
-walk_kinds : Bool → ℕ → List Kind → Option ℕ
-walk_kinds commas n [] = Some n
-walk_kinds commas n (k ∷ ks) = option_and_then (λ m. walk_kinds commas m ks) (step commas n k)
+abbrev IsFlat : List Kind → Type 0
+IsFlat [] = Unit {0}
+IsFlat (k ∷ ks) = ((commas : Bool) (n : ℕ) → step commas n k ≡ Some n) × IsFlat ks
 
-walk_is : (commas : Bool) (n : ℕ) (ts : List Lexeme) → walk commas n ts ≡ walk_kinds commas n (kinds ts)
-walk_is commas n [] = refl
-walk_is commas n (t ∷ ts) = bind_same (step commas n (kind_at t)) (λ m. walk commas m ts) (λ m. walk_kinds commas m (kinds ts)) (λ m. walk_is commas m ts)
+-- words lead nowhere, and neither do stars
+flat : (commas : Bool) (n : ℕ) (ts : List Lexeme) (ks : List Kind) → kinds ts ≡ ks → IsFlat ks → walk commas n ts ≡ Some n
+flat commas n [] ks e f = refl
+flat commas n (t ∷ ts) [] e f = absurd cc
+flat commas n (t ∷ ts) (k ∷ ks) e f =
+    let first : kind_at t ≡ k = cc in
+    let others : kinds ts ≡ ks = cc in
+    ap (option_and_then (λ m. walk commas m ts)) (ap (step commas n) first ∙ f.0 commas n) ∙ flat commas n ts ks others f.1
 
-specifiers_walked : (commas : Bool) (n : ℕ) (all : List _) → walk_kinds commas n (map specifier_kind all) ≡ Some n
-specifiers_walked commas n [] = refl
-specifiers_walked commas n (s ∷ all) = specifiers_walked commas n all
+specifiers_flat : (all : List Specifier) → IsFlat (map specifier_kind all)
+specifiers_flat [] = tt
+specifiers_flat (s ∷ all) = ((λ commas n. refl), specifiers_flat all)
 
-qualifiers_walked : (commas : Bool) (n : ℕ) (all : List _) (others : List Kind) → walk_kinds commas n (map qualifier_kind all ++ others) ≡ walk_kinds commas n others
-qualifiers_walked commas n [] others = refl
-qualifiers_walked commas n (q ∷ all) others = qualifiers_walked commas n all others
+qualifiers_flat : (all : List Qualifier) (others : List Kind) → IsFlat others → IsFlat (map qualifier_kind all ++ others)
+qualifiers_flat [] others f = f
+qualifiers_flat (q ∷ all) others f = ((λ commas n. refl), qualifiers_flat all others f)
 
-stars_walked : (commas : Bool) (n : ℕ) (all : List (List _)) → walk_kinds commas n (stars_kinds all) ≡ Some n
-stars_walked commas n [] = refl
-stars_walked commas n (star ∷ all) = qualifiers_walked commas n star (stars_kinds all) ∙ stars_walked commas n all
+stars_flat : (all : List (List Qualifier)) → IsFlat (stars_kinds all)
+stars_flat [] = tt
+stars_flat (star ∷ all) = ((λ commas n. refl), qualifiers_flat star (stars_kinds all) (stars_flat all))
 
-type_walked : (commas : Bool) (n : ℕ) (scope : Scope) (ts : List Lexeme) (type : TypeName) → SpellsTypeName scope ts type → walk commas n ts ≡ Some n
+type_walked : (commas : Bool) (n : ℕ) (scope : Scope) (ts : List Lexeme) (type : TypeName) → SpellsTypeName scope ts type → Walks commas n ts n
 type_walked commas n scope ts type s =
-    are_walked commas n ts (These s.front ∷ These s.back ∷ []) s.parts
-    ∙ bind_is (walk_is commas n s.front ∙ ap (walk_kinds commas n) s.specifiers.words ∙ specifiers_walked commas n type.specifiers)
-    (bind_is (walk_is commas n s.back ∙ ap (walk_kinds commas n) s.stars ∙ stars_walked commas n type.stars) refl)
+    are_walked (These s.front ∷ These s.back ∷ []) s.parts
+    (Over (record { is = flat commas n s.front (map specifier_kind type.specifiers) s.specifiers.words (specifiers_flat type.specifiers) })
+    (Over (record { is = flat commas n s.back (stars_kinds type.stars) s.stars (stars_flat type.stars) }) Done))
 
 -- ---- expressions
 
 -- commas may stand outside brackets, or something is open, or the level has none
-Allowed : Bool → ℕ → ℕ → Type 0
+abbrev Allowed : Bool → ℕ → ℕ → Type 0
 Allowed commas n level = (commas ≡ true) ⊎ ((0 < n) ⊎ (1 ≤ level))
 
 comma_step : (commas : Bool) (n level : ℕ) → Allowed commas n level → level ≤ expr → step commas n (Punctuator (codes ",")) ≡ Some n
@@ -200,49 +195,45 @@ positive_level binaries.Or = omega arith
 
 module _ (scope : Scope) (c : Bool) where
   mutual
-    walked : {k : ℕ} {ts : List Lexeme} {e : Expression} (n : ℕ) → SpellsExpression scope k ts e → Allowed c n k → walk c n ts ≡ Some n
-    walked {k} {ts} n (spelled.Comma us vs low line a x y) ok =
-        are_walked c n ts _ a ∙ bind_is (walked n x (looser c n k ok low)) (bind_is (comma_step c n k ok low) (bind_is (walked n y (tight c n assign (omega arith))) refl))
-    walked {ts = ts} n (spelled.Assign op us vs low line a x y) ok =
-        are_walked c n ts _ a ∙ bind_is (walked n x (tight c n _ (omega arith))) (bind_is (assign_step c n op) (bind_is (walked n y (tight c n _ (omega arith))) refl))
-    walked {ts = ts} n (spelled.Conditional us vs ws low line a x y z) ok =
-        are_walked c n ts _ a ∙ bind_is (walked n x (tight c n _ (omega arith))) (bind_is {m = suc n} refl (bind_is (walked (suc n) y (inner c n _)) (bind_is {m = n} refl (bind_is (walked n z (tight c n _ (omega arith))) refl))))
-    walked {ts = ts} n (spelled.Binary op us vs low line a x y) ok =
-        let some = positive_level op in
-        are_walked c n ts _ a ∙ bind_is (walked n x (tight c n _ some)) (bind_is (binary_step c n op) (bind_is (walked n y (tight c n _ (omega arith))) refl))
-    walked {ts = ts} n (spelled.Cast type us vs low line a x y) ok =
-        are_walked c n ts _ a ∙ bind_is {m = suc n} refl (bind_is (type_walked c (suc n) scope us type x) (bind_is {m = n} refl (bind_is (walked n y (tight c n _ (omega arith))) refl)))
-    walked {ts = ts} n (spelled.PreIncrement us low line a x) ok = are_walked c n ts _ a ∙ bind_is {m = n} refl (bind_is (walked n x (tight c n _ (omega arith))) refl)
-    walked {ts = ts} n (spelled.PreDecrement us low line a x) ok = are_walked c n ts _ a ∙ bind_is {m = n} refl (bind_is (walked n x (tight c n _ (omega arith))) refl)
-    walked {ts = ts} n (spelled.Unary op us low line a x) ok = are_walked c n ts _ a ∙ bind_is (unary_step c n op) (bind_is (walked n x (tight c n _ (omega arith))) refl)
-    walked {ts = ts} n (spelled.SizeofExpression us low line a x) ok = are_walked c n ts _ a ∙ bind_is {m = n} refl (bind_is (walked n x (tight c n _ (omega arith))) refl)
-    walked {ts = ts} n (spelled.SizeofType type us low line a x) ok =
-        are_walked c n ts _ a ∙ bind_is {m = n} refl (bind_is {m = suc n} refl (bind_is (type_walked c (suc n) scope us type x) (bind_is {m = n} refl refl)))
-    walked {ts = ts} n (spelled.Index us vs low line a x y) ok =
-        are_walked c n ts _ a ∙ bind_is (walked n x (tight c n _ (omega arith))) (bind_is {m = suc n} refl (bind_is (walked (suc n) y (inner c n _)) (bind_is {m = n} refl refl)))
-    walked {ts = ts} n (spelled.PostIncrement us low line a x) ok = are_walked c n ts _ a ∙ bind_is (walked n x (tight c n _ (omega arith))) (bind_is {m = n} refl refl)
-    walked {ts = ts} n (spelled.PostDecrement us low line a x) ok = are_walked c n ts _ a ∙ bind_is (walked n x (tight c n _ (omega arith))) (bind_is {m = n} refl refl)
-    walked {ts = ts} n (spelled.Call name us low line a named x) ok =
-        are_walked c n ts _ a ∙ bind_is {m = n} refl (bind_is {m = suc n} refl (bind_is (arguments_walked n x) (bind_is {m = n} refl refl)))
-    walked {ts = ts} n (spelled.Name name line a named) ok = are_walked c n ts _ a
-    walked {ts = ts} n (spelled.Constant type value line a) ok = are_walked c n ts _ a
-    walked {ts = ts} n (spelled.Character byte line a) ok = are_walked c n ts _ a
-    walked {ts = ts} n (spelled.String bytes line a) ok = are_walked c n ts _ a
-    walked {ts = ts} n (spelled.Parentheses us a x) ok = are_walked c n ts _ a ∙ bind_is {m = suc n} refl (bind_is (walked (suc n) x (inner c n _)) (bind_is {m = n} refl refl))
+    walked : {k : ℕ} {ts : List Lexeme} {e : Expression} (n : ℕ) → SpellsExpression scope k ts e → Allowed c n k → Walks c n ts n
+    walked {k} n (spelled.Comma us vs low line a x y) ok = are_walked (These us ∷ mark (codes ",") ∷ These vs ∷ []) a (Over (walked n x (looser c n k ok low)) (At (comma_step c n k ok low) (Over (walked n y (tight c n assign (omega arith))) Done)))
+    walked n (spelled.Assign op us vs low line a x y) ok = are_walked (These us ∷ mark (assign_text op) ∷ These vs ∷ []) a (Over (walked n x (tight c n unary (omega arith))) (At (assign_step c n op) (Over (walked n y (tight c n assign (omega arith))) Done)))
+    walked n (spelled.Conditional us vs ws low line a x y z) ok =
+        are_walked (These us ∷ mark (codes "?") ∷ These vs ∷ mark (codes ":") ∷ These ws ∷ []) a (Over (walked n x (tight c n lor (omega arith))) (At {m = suc n} refl (Over (walked (suc n) y (inner c n expr)) (At {m = n} refl (Over (walked n z (tight c n cond (omega arith))) Done)))))
+    walked n (spelled.Binary op us vs low line a x y) ok =
+        are_walked (These us ∷ mark (binary_text op) ∷ These vs ∷ []) a (Over (walked n x (tight c n (level_of op) (positive_level op))) (At (binary_step c n op) (Over (walked n y (tight c n (level_of op + 1) (omega arith))) Done)))
+    walked n (spelled.Cast type us vs low line a x y) ok =
+        are_walked (mark (codes "(") ∷ These us ∷ mark (codes ")") ∷ These vs ∷ []) a (At {m = suc n} refl (Over (type_walked c (suc n) scope us type x) (At {m = n} refl (Over (walked n y (tight c n spelled.cast (omega arith))) Done))))
+    walked n (spelled.PreIncrement us low line a x) ok = are_walked (mark (codes "++") ∷ These us ∷ []) a (At {m = n} refl (Over (walked n x (tight c n unary (omega arith))) Done))
+    walked n (spelled.PreDecrement us low line a x) ok = are_walked (mark (codes "--") ∷ These us ∷ []) a (At {m = n} refl (Over (walked n x (tight c n unary (omega arith))) Done))
+    walked n (spelled.Unary op us low line a x) ok = are_walked (mark (unary_text op) ∷ These us ∷ []) a (At (unary_step c n op) (Over (walked n x (tight c n spelled.cast (omega arith))) Done))
+    walked n (spelled.SizeofExpression us low line a x) ok = are_walked (word (codes "sizeof") ∷ These us ∷ []) a (At {m = n} refl (Over (walked n x (tight c n unary (omega arith))) Done))
+    walked n (spelled.SizeofType type us low line a x) ok =
+        are_walked (word (codes "sizeof") ∷ mark (codes "(") ∷ These us ∷ mark (codes ")") ∷ []) a (At {m = n} refl (At {m = suc n} refl (Over (type_walked c (suc n) scope us type x) (At {m = n} refl Done))))
+    walked n (spelled.Index us vs low line a x y) ok =
+        are_walked (These us ∷ mark (codes "[") ∷ These vs ∷ mark (codes "]") ∷ []) a (Over (walked n x (tight c n postfix (omega arith))) (At {m = suc n} refl (Over (walked (suc n) y (inner c n expr)) (At {m = n} refl Done))))
+    walked n (spelled.PostIncrement us low line a x) ok = are_walked (These us ∷ mark (codes "++") ∷ []) a (Over (walked n x (tight c n postfix (omega arith))) (At {m = n} refl Done))
+    walked n (spelled.PostDecrement us low line a x) ok = are_walked (These us ∷ mark (codes "--") ∷ []) a (Over (walked n x (tight c n postfix (omega arith))) (At {m = n} refl Done))
+    walked n (spelled.Call name us low line a named x) ok =
+        are_walked (word name ∷ mark (codes "(") ∷ These us ∷ mark (codes ")") ∷ []) a (At {m = n} refl (At {m = suc n} refl (Over (arguments_walked n x) (At {m = n} refl Done))))
+    walked n (spelled.Name name line a named) ok = are_walked (word name ∷ []) a (At {m = n} refl Done)
+    walked n (spelled.Constant type value line a) ok = are_walked (One (tokens.Number type value) ∷ []) a (At {m = n} refl Done)
+    walked n (spelled.Character byte line a) ok = are_walked (One (tokens.Character byte) ∷ []) a (At {m = n} refl Done)
+    walked n (spelled.String bytes line a) ok = are_walked (One (tokens.Text bytes) ∷ []) a (At {m = n} refl Done)
+    walked n (spelled.Parentheses us a x) ok = are_walked (mark (codes "(") ∷ These us ∷ mark (codes ")") ∷ []) a (At {m = suc n} refl (Over (walked (suc n) x (inner c n expr)) (At {m = n} refl Done)))
 
-    arguments_walked : {ts : List Lexeme} {es : Expressions} (n : ℕ) → SpellsArguments scope ts es → walk c (suc n) ts ≡ Some (suc n)
-    arguments_walked n (spelled.NoArguments e) = ap (walk c (suc n)) e
-    arguments_walked n (spelled.Arguments us vs e x more) =
-        ap (walk c (suc n)) e ∙ walk-append c (suc n) us vs ∙ bind_is (walked (suc n) x (inner c n _)) (further_walked n more)
+    arguments_walked : {ts : List Lexeme} {es : Expressions} (n : ℕ) → SpellsArguments scope ts es → Walks c (suc n) ts (suc n)
+    arguments_walked n (spelled.NoArguments e) = record { is = ap (walk c (suc n)) e }
+    arguments_walked n (spelled.Arguments us vs e x more) = are_walked (These us ∷ These vs ∷ []) (vs, e, refl) (Over (walked (suc n) x (inner c n assign)) (Over (further_walked n more) Done))
 
-    further_walked : {ts : List Lexeme} {es : Expressions} (n : ℕ) → SpellsFurther scope ts es → walk c (suc n) ts ≡ Some (suc n)
-    further_walked n (spelled.NoFurther e) = ap (walk c (suc n)) e
-    further_walked {ts} n (spelled.Further us vs a x more) =
-        are_walked c (suc n) ts _ a ∙ bind_is (comma_step c (suc n) 0 (inner c n 0) (omega arith)) (bind_is (walked (suc n) x (inner c n _)) (bind_is (further_walked n more) refl))
+    further_walked : {ts : List Lexeme} {es : Expressions} (n : ℕ) → SpellsFurther scope ts es → Walks c (suc n) ts (suc n)
+    further_walked n (spelled.NoFurther e) = record { is = ap (walk c (suc n)) e }
+    further_walked n (spelled.Further us vs a x more) =
+        are_walked (mark (codes ",") ∷ These us ∷ These vs ∷ []) a (At (comma_step c (suc n) 0 (inner c n 0) (omega arith)) (Over (walked (suc n) x (inner c n assign)) (Over (further_walked n more) Done)))
 
 -- ---- stops
 
-commas_in : Level → Bool
+abbrev pub commas_in : Level → Bool
 commas_in levels.Expr = true
 commas_in _ = false
 
@@ -261,8 +252,8 @@ stops scope level us t vs stop a b =
     let c = commas_in level in
     let short = walked scope c 0 a (allowed_in level) in
     let long = walked scope c 0 b (allowed_in level) in
-    let none : walk c 0 (us ++ t ∷ vs) ≡ None = walk-append c 0 us (t ∷ vs) ∙ bind_is short (ap (option_and_then (λ m. walk c m vs)) stop) in
-    let both : None ≡ Some 0 = sym none ∙ long in
+    let none : walk c 0 (us ++ t ∷ vs) ≡ None = walked_on c 0 us (t ∷ vs) short.is ∙ ap (option_and_then (λ m. walk c m vs)) stop in
+    let both : None ≡ Some 0 = sym none ∙ long.is in
     absurd cc
 
 -- A longer front of some tokens than a front before a token has that token.
@@ -286,4 +277,4 @@ longest_before {scope} {level} {us} {e} t rest stop a = record {
 }
   where
     split : (n m : ℕ) → (n < m → ⊥) → m ≤ n
-    split n m no = grind arith
+    split n m other = grind arith

@@ -1,7 +1,7 @@
 -- What the words that make a type are.
 use Rattle.std.proofs.Common.{◌≡◌, ℕ, Bool, true, false, cond, List, [], ◌∷◌, codes, Option, Some, None, find, bytes_eq, refl, sym, ap, ◌∙◌, subst, if◌then◌else◌}
 use Rattle.std.specs.List.{list_all}
-use Rattle.std.proofs.lemmas.Bool.{and_parts}
+use Rattle.std.proofs.lemmas.Bool.{and_parts, false≢true}
 use Rattle.std.proofs.lemmas.Slice.Eq.{bytes_eq-Decides}
 use Rattle.css_base.specs.Tokens as tokens
 use Rattle.css_base.specs.Tokens.{Kind, Word}
@@ -36,12 +36,12 @@ find_among {X} P test (y ∷ xs) x all h =
 
 -- ---- specifiers
 
-is_in_block : Specifier → Bool
+abbrev is_in_block : Specifier → Bool
 is_in_block specifiers.Static = false
 is_in_block s = true
 
 in_block : (s : Specifier) → is_in_block s ≡ true → IsAllowed scopes.Block s
-in_block specifiers.Static h = absurd cc
+in_block specifiers.Static h = absurd (false≢true h)
 in_block s h = tt
 
 block_bytes : (bytes : List ℕ) (s : Specifier) → block_specifier bytes ≡ Some s → bytes ≡ specifier_text s
@@ -78,7 +78,7 @@ specifier_is scope (tokens.Punctuator bytes) s e = absurd cc
 specifier_is scope (tokens.Directive words) s e = absurd cc
 
 pub specifier_found : (scope : Scope) (s : Specifier) → IsAllowed scope s → specifier_spelled scope (specifier_text s) ≡ Some s
-unfolding block_specifier, file_specifier
+unfolding block_specifier file_specifier
 specifier_found scopes.File specifiers.Void h = refl
 specifier_found scopes.File specifiers.Char h = refl
 specifier_found scopes.File specifiers.Short h = refl

@@ -22,3 +22,6 @@ mod words;
 
 pub use laws::{items_end_by_themselves, one_tree};
 pub use program::parse;
+
+#[cfg(test)]
+mod tests;
