@@ -210,16 +210,21 @@ mutual
       subst (λ l. ReadsFurtherParts scope most l NoParts rest) (sym (ap (λ l. l ++ (vs ++ c ∷ rest)) s ∙ ap (λ l. l ++ c ∷ rest) (e ∙ ap (λ l. o ∷ l) last)))
       (reads.ClosedBehindComma (c ∷ rest) (next_is o _ is) (next_is c rest closes))
   further_parts_read scope most us (MoreParts first others) vs c rest closes comma (xs, ys, (o, r1, e1, is, (r2, e2, e3)), s, more) low =
-      let whole : us ++ (vs ++ c ∷ rest) ≡ o ∷ ((xs ++ ys) ++ (vs ++ c ∷ rest)) = ap (λ l. l ++ (vs ++ c ∷ rest)) (e1 ∙ ap (λ l. o ∷ l) (e2 ∙ ap (λ l. xs ++ l) e3)) in
-      let inner = parts_read scope most (xs ++ ys) (MoreParts first others) vs c rest closes comma (xs, ys, (ys, refl, refl), s, more) low in
+      let tail = vs ++ c ∷ rest in
+      let behind = further_first scope ys others vs c rest closes comma more in
+      let here = initialiser_read scope most xs first behind.token behind.rest behind.is s (omega arith) in
+      let further = further_parts_read scope most ys others vs c rest closes comma more (omega arith) in
+      let inner = reads.Parts (ys ++ tail) (subst (λ l. ReadsInitialiser scope most (xs ++ l) first l) (sym behind.parts) here) further in
+      let whole : us ++ tail ≡ o ∷ (xs ++ (ys ++ tail)) = ap (λ l. l ++ tail) (e1 ∙ ap (λ l. o ∷ l) (e2 ∙ ap (λ l. xs ++ l) e3)) ∙ ap (λ l. o ∷ l) (append_assoc xs ys tail) in
       subst (λ l. ReadsFurtherParts scope most l (MoreParts first others) rest) (sym whole)
-      (reads.Further ((xs ++ ys) ++ (vs ++ c ∷ rest)) (next_is o _ is) (no_brace scope xs ys first (vs ++ c ∷ rest) s) inner)
+      (reads.Further (xs ++ (ys ++ tail)) (next_is o _ is) (subst (IsNoNext (Punctuator (codes "}"))) (append_assoc xs ys tail) (no_brace scope xs ys first tail s)) inner)
 
   -- no initialiser begins with a closing brace
   no_brace : (scope : Scope) (xs ys : List Lexeme) (i : Initialiser) (rest : List Lexeme) → SpellsInitialiser scope xs i → IsNoNext (Punctuator (codes "}")) ((xs ++ ys) ++ rest)
   no_brace scope xs ys (Value e) rest (s, none) = not_next (Punctuator (codes "}")) (begun_before rest (begun_before ys (begun s))) (λ start. false≢true (sym start))
   no_brace scope xs ys (String line bytes) rest (a, line_is) =
-      not_next (Punctuator (codes "}")) (begun_before rest (begun_before ys (begun (spelled.String {scope} {0} bytes line_is a)))) (λ start. false≢true (sym start))
+      let s : SpellsExpression scope 0 xs (tree.Text line bytes) = spelled.String bytes line_is a in
+      not_next (Punctuator (codes "}")) (begun_before rest (begun_before ys (begun s))) (λ start. false≢true (sym start))
   no_brace scope xs ys (Braces line parts) rest (us, vs, (o, r1, e1, opens, a), line_is, s, comma) =
       subst (λ l. IsNoNext (Punctuator (codes "}")) ((l ++ ys) ++ rest)) (sym e1) (other_mark o ((r1 ++ ys) ++ rest) (codes "}") opens refl)
 

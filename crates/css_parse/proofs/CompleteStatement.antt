@@ -71,7 +71,7 @@ pub record SpecifierFirst (ts : List Lexeme) : Type 0 where
   pub specifier : Specifier
   pub is : kind_at token ≡ specifier_kind specifier
 
-specifiers_first : (scope : Scope) (us : List Lexeme) (all : List Specifier) (rest : List Lexeme) → 0 < length all → kinds us ≡ map specifier_kind all → SpecifierFirst (us ++ rest)
+pub specifiers_first : (scope : Scope) (us : List Lexeme) (all : List Specifier) (rest : List Lexeme) → 0 < length all → kinds us ≡ map specifier_kind all → SpecifierFirst (us ++ rest)
 specifiers_first scope us [] rest some e = absurd (omega arith)
 specifiers_first scope [] (s ∷ all) rest some e = absurd cc
 specifiers_first scope (u ∷ us) (s ∷ all) rest some e = record { token = u; rest = us ++ rest; parts = refl; specifier = s; is = cc }
@@ -129,16 +129,16 @@ optional_first None us ts s t rest e is = record { token = t; rest = rest; parts
 optional_first (Some x) us ts s t rest e is = (let b = begun s in record { token = b.token; rest = b.rest ++ t ∷ rest; parts = e ∙ ap (λ l. l ++ t ∷ rest) b.parts; is = OfExpression b.is })
 
 pub statement_first : (ts : List Lexeme) (s : Statement) → SpellsStatement ts s → StatementFirst ts
-statement_first ts (tree.Block line entries) (us, (t, r, e, is, a), h) = record { token = t; rest = r; parts = e; is = OfForm forms.Block is }
+statement_first ts (tree.Block line entries) (us, (t, r, e, is, a), l, n) = record { token = t; rest = r; parts = e; is = OfForm forms.Block is }
 statement_first ts (tree.Evaluate line value) (us, (r, e, (t, r2, e2, is, none)), line_is, s) = optional_first value us ts s t r2 (e ∙ ap (λ l. us ++ l) e2) is
-statement_first ts (tree.If line x s) (us, vs, (t, r, e, is, a), h) = record { token = t; rest = r; parts = e; is = OfForm forms.If is }
-statement_first ts (tree.IfElse line x s other) (us, vs, ws, (t, r, e, is, a), h) = record { token = t; rest = r; parts = e; is = OfForm forms.If is }
-statement_first ts (tree.While line x s) (us, vs, (t, r, e, is, a), h) = record { token = t; rest = r; parts = e; is = OfForm forms.While is }
-statement_first ts (tree.Do line s x) (us, vs, (t, r, e, is, a), h) = record { token = t; rest = r; parts = e; is = OfForm forms.Do is }
-statement_first ts (tree.For line start condition step s) (us, vs, ws, xs, (t, r, e, is, a), h) = record { token = t; rest = r; parts = e; is = OfForm forms.For is }
+statement_first ts (tree.If line x s) (us, vs, (t, r, e, is, a), l, m, n) = record { token = t; rest = r; parts = e; is = OfForm forms.If is }
+statement_first ts (tree.IfElse line x s other) (us, vs, ws, (t, r, e, is, a), l, m, n, p, q) = record { token = t; rest = r; parts = e; is = OfForm forms.If is }
+statement_first ts (tree.While line x s) (us, vs, (t, r, e, is, a), l, m, n) = record { token = t; rest = r; parts = e; is = OfForm forms.While is }
+statement_first ts (tree.Do line s x) (us, vs, (t, r, e, is, a), l, m, n) = record { token = t; rest = r; parts = e; is = OfForm forms.Do is }
+statement_first ts (tree.For line start condition step s) (us, vs, ws, xs, (t, r, e, is, a), l, m, n, p, q) = record { token = t; rest = r; parts = e; is = OfForm forms.For is }
 statement_first ts (tree.Break line) ((t, r, e, is, a), h) = record { token = t; rest = r; parts = e; is = OfForm forms.Break is }
 statement_first ts (tree.Continue line) ((t, r, e, is, a), h) = record { token = t; rest = r; parts = e; is = OfForm forms.Continue is }
-statement_first ts (tree.Return line value) (us, (t, r, e, is, a), h) = record { token = t; rest = r; parts = e; is = OfForm forms.Return is }
+statement_first ts (tree.Return line value) (us, (t, r, e, is, a), l, n) = record { token = t; rest = r; parts = e; is = OfForm forms.Return is }
 
 form_no_else : (f : Form) → form_kind f ≡ Word (codes "else") → ⊥
 form_no_else forms.Block e = absurd cc
@@ -214,6 +214,7 @@ start_no_specifier {kind} (OfExpression s) = no_kind_specifier scopes.Block kind
 -- an expression statement is of no form
 start_no_form : (value : Option Expression) (us ts : List Lexeme) (s : SpellsOptional scopes.Block (level_number levels.Expr) us value) (t : Lexeme) (inner : ts ≡ us ++ t ∷ []) (is : kind_at t ≡ Punctuator (codes ";"))
     → form_of (kind_at (optional_first value us ts s t [] inner is).token) ≡ None
+unfolding optional_first
 start_no_form None us ts s t inner is = ap form_of is ∙ semicolon_form
 start_no_form (Some x) us ts s t inner is = no_form_begun (kind_at (begun s).token) (begun s).is
 
@@ -229,6 +230,11 @@ start_read most ts (EvaluateFirst value) rest (us, (r, e, (t, r2, e2, is, none))
     (no_specifier, subst (λ l. ReadsOptional scopes.Block levels.Expr (codes ";") most l value rest) (sym whole) (optional_read scopes.Block levels.Expr (codes ";") most us value t rest is refl (λ start. false≢true (sym start)) s low))
 
 -- ---- statements
+
+formed : (most : ℕ) (ts rest : List Lexeme) (s : Statement) (f : Form) (t : Lexeme) (behind : List Lexeme) (line : ℕ) → 0 < most → ts ++ rest ≡ t ∷ behind → kind_at t ≡ form_kind f → line_of t ≡ line → ReadsForm f (most - 1) line behind s rest
+    → ReadsStatement most (ts ++ rest) s rest
+formed most ts rest s f t behind line some whole is line_is r =
+    reads.Formed t behind f some whole (ap form_of is ∙ form_found f) (subst (λ n. ReadsForm f (most - 1) n behind s rest) (sym line_is) r)
 
 mutual
   pub statement_read : (most : ℕ) (ts : List Lexeme) (s : Statement) (rest : List Lexeme) → (takes_else s ≡ true → IsNoNext (Word (codes "else")) rest) → SpellsStatement ts s → height_of_statement s ≤ most → ReadsStatement most (ts ++ rest) s rest
@@ -285,11 +291,6 @@ mutual
   statement_read most ts (tree.Return line value) rest none (us, (t, r, e, is, (r2, e2, (z, r3, e3, ends, last))), line_is, s) low =
       formed most ts rest (tree.Return line value) forms.Return t (us ++ z ∷ rest) line (omega arith) (ap (λ l. l ++ rest) (e ∙ ap (λ l. t ∷ l) (e2 ∙ ap (λ l. us ++ l) (e3 ∙ ap (λ l. z ∷ l) last))) ∙ ap (λ l. t ∷ l) (append_assoc us (z ∷ []) rest)) is (sym (ap first_line e) ∙ line_is)
       (reads.Return (optional_read scopes.Block levels.Expr (codes ";") (most - 1) us value z rest ends refl (λ start. false≢true (sym start)) s (omega arith)))
-
-  formed : (most : ℕ) (ts rest : List Lexeme) (s : Statement) (f : Form) (t : Lexeme) (behind : List Lexeme) (line : ℕ) → 0 < most → ts ++ rest ≡ t ∷ behind → kind_at t ≡ form_kind f → line_of t ≡ line → ReadsForm f (most - 1) line behind s rest
-      → ReadsStatement most (ts ++ rest) s rest
-  formed most ts rest s f t behind line some whole is line_is r =
-      reads.Formed t behind f some whole (ap form_of is ∙ form_found f) (subst (λ n. ReadsForm f (most - 1) n behind s rest) (sym line_is) r)
 
   pub entries_read : (most : ℕ) (us : List Lexeme) (es : Entries) (c : Lexeme) (rest : List Lexeme) → kind_at c ≡ Punctuator (codes "}") → SpellsEntries us es → height_of_entries es ≤ most → ReadsEntries most (us ++ c ∷ rest) es rest
   entries_read most us NoEntries c rest closes s low = subst (λ l. ReadsEntries most (l ++ c ∷ rest) NoEntries rest) (sym s) (reads.Closed (next_is c rest closes))

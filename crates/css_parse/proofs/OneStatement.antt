@@ -90,10 +90,10 @@ mutual
       let p = one_condition c c' in
       let q = one_statement r (subst (λ l. ReadsStatement most l s' middle') (sym p.1) r') in
       absurd (none next' (subst (λ l. Next (Word (codes "else")) l next') (sym q.1) n'))
-  one_form {most} {line} f (reads.IfElse {s = s'} behind' middle' next' c' r' n' o') (reads.If behind c r none) =
+  one_form {most} {line} f (reads.IfElse behind middle next c r n w) (reads.If {rest = vs} {s = s'} behind' c' r' none) =
       let p = one_condition c c' in
-      let q = one_statement r (subst (λ l. ReadsStatement most l s' middle') (sym p.1) r') in
-      absurd (none next' (subst (λ l. Next (Word (codes "else")) l next') (sym q.1) n'))
+      let q = one_statement r (subst (λ l. ReadsStatement most l s' vs) (sym p.1) r') in
+      absurd (none next (subst (λ l. Next (Word (codes "else")) l next) q.1 n))
   one_form {most} {line} f (reads.IfElse {e = e} {s = s} {other = o} behind middle next c r n w) (reads.IfElse {rest = vs} {e = e'} {s = s'} {other = o'} behind' middle' next' c' r' n' w') =
       let p = one_condition c c' in
       let q = one_statement r (subst (λ l. ReadsStatement most l s' middle') (sym p.1) r') in

@@ -216,20 +216,20 @@ items_spelled (i ∷ is) ts rest (next, r, more) =
       spells = record { spelled = (here.front, others.front, (_, refl, refl), here.spells, others.spells.spelled); low = omega arith };
     }
 
-pub item_shorter : (most : ℕ) (ts : List Lexeme) (i : Item) {rest : List Lexeme} → ReadsItem most ts i rest → length rest < length ts
-item_shorter most ts i {rest} r =
+pub item_shorter : (most : ℕ) (ts : List Lexeme) (i : Item) (rest : List Lexeme) → ReadsItem most ts i rest → length rest < length ts
+item_shorter most ts i rest r =
     let x = item_spelled most ts i r in
     let some = x.some in
     omega (arith, ap length x.parts.parts, length-append x.front rest)
 
 pub items_no_longer : (is : Tree) (ts rest : List Lexeme) → ReadsItems ts is rest → length rest ≤ length ts
 items_no_longer [] ts rest e = (let l = ap length e in omega arith)
-items_no_longer (i ∷ is) ts rest (next, r, more) = (let a = item_shorter 500 ts i r in let b = items_no_longer is next rest more in omega arith)
+items_no_longer (i ∷ is) ts rest (next, r, more) = (let a = item_shorter 500 ts i next r in let b = items_no_longer is next rest more in omega arith)
 
 pub one_items : (is js : Tree) (ts rest : List Lexeme) → ReadsItems ts is rest → ReadsItems ts js rest → is ≡ js
 one_items [] [] ts rest a b = refl
-one_items [] (j ∷ js) ts rest a (next, r, more) = (let l = ap length a in let m = item_shorter 500 ts j r in let n = items_no_longer js next rest more in absurd (omega arith))
-one_items (i ∷ is) [] ts rest (next, r, more) b = (let l = ap length b in let m = item_shorter 500 ts i r in let n = items_no_longer is next rest more in absurd (omega arith))
+one_items [] (j ∷ js) ts rest a (next, r, more) = (let l = ap length a in let m = item_shorter 500 ts j next r in let n = items_no_longer js next rest more in absurd (omega arith))
+one_items (i ∷ is) [] ts rest (next, r, more) b = (let l = ap length b in let m = item_shorter 500 ts i next r in let n = items_no_longer is next rest more in absurd (omega arith))
 one_items (i ∷ is) (j ∷ js) ts rest (next, r, more) (next', r', more') =
     let first = one_item 500 ts i j r r' in
     let others = one_items is js next rest more (subst (λ l. ReadsItems l js rest) (sym first.1) more') in

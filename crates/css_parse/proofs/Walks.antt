@@ -55,11 +55,11 @@ record Walks (commas : Bool) (n : ℕ) (ts : List Lexeme) (m : ℕ) : Type 0 whe
 
 walked_on : (commas : Bool) (n : ℕ) (us vs : List Lexeme) {m : ℕ} → walk commas n us ≡ Some m → walk commas n (us ++ vs) ≡ walk commas m vs
 walked_on commas n [] vs {m} e = (let same : n ≡ m = cc in ap (λ k. walk commas k vs) same)
-walked_on commas n (u ∷ us) vs {m} e = by (step commas n (kind_at u)) e
+walked_on commas n (u ∷ us) vs {m} e = by (step commas n (kind_at u)) (λ l h. walked_on commas l us vs h) e
   where
-    by : (o : Option ℕ) → option_and_then (λ l. walk commas l us) o ≡ Some m → option_and_then (λ l. walk commas l (us ++ vs)) o ≡ walk commas m vs
-    by None e = absurd cc
-    by (Some l) e = walked_on commas l us vs e
+    by : (o : Option ℕ) → ((l : ℕ) → walk commas l us ≡ Some m → walk commas l (us ++ vs) ≡ walk commas m vs) → option_and_then (λ l. walk commas l us) o ≡ Some m → option_and_then (λ l. walk commas l (us ++ vs)) o ≡ walk commas m vs
+    by None later e = absurd cc
+    by (Some l) later e = later l e
 
 data WalksParts (commas : Bool) : (n : ℕ) (parts : List Part) (m : ℕ) → Type 0 where
   Done : {n : ℕ} → WalksParts commas n [] n
