@@ -103,7 +103,7 @@ parameter_read most ts p t rest end s low = by s.parts
           next = behind;
           line_is = first_line_front ts (t ∷ rest) some ∙ s.line_is;
           reads_specifiers = subst (λ l. ReadsSpecifiers scopes.File l p.specifiers (s.stars ++ (s.name ++ behind))) (sym whole)
-          (specifiers_read (s.stars ++ (s.name ++ behind)) s.spells_specifiers (stars_end s.stars p.stars (s.name ++ behind) s.spells_stars ends.no_specifier));
+              (specifiers_read (s.stars ++ (s.name ++ behind)) s.spells_specifiers (stars_end s.stars p.stars (s.name ++ behind) s.spells_stars ends.no_specifier));
           reads_stars = stars_read s.stars p.stars (s.name ++ behind) s.spells_stars ends.behind_stars;
           reads_name = optional_name_read s.name p.name behind s.spells_name first;
           reads_dimensions = dimensions_read scopes.File most s.dimensions p.dimensions (t ∷ rest) s.spells_dimensions low (end_is_not t rest (Punctuator (codes "[")) (differ (codes ",") (codes "[") refl) (differ (codes ")") (codes "[") refl) end);
@@ -213,7 +213,7 @@ function_read most ts f rest s low = by s.begins s.parts
           reads_mark = subst (λ l. ReadsOptionalMark l f.directive (s.rest ++ rest)) (sym whole) (optional_mark_read s.directive f.directive (s.rest ++ rest) s.spells_directive first);
           line_is = first_line_front s.rest rest some ∙ s.line_is;
           reads_specifiers = subst (λ l. ReadsSpecifiers scopes.File l f.specifiers (s.stars ++ w ∷ (o ∷ inside))) (sym start)
-          (specifiers_read (s.stars ++ w ∷ (o ∷ inside)) s.spells_specifiers (no_specifier_stars scopes.File s.stars f.stars w (o ∷ inside) s.spells_stars named s.named));
+              (specifiers_read (s.stars ++ w ∷ (o ∷ inside)) s.spells_specifiers (no_specifier_stars scopes.File s.stars f.stars w (o ∷ inside) s.spells_stars named s.named));
           reads_head = record {
             behind = w ∷ (o ∷ inside);
             reads_stars = stars_read s.stars f.stars (w ∷ (o ∷ inside)) s.spells_stars (name_next w (o ∷ inside) named s.named);

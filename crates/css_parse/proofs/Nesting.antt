@@ -21,7 +21,7 @@ fronts [] t (x ∷ front) rest e = inr (by front rest e)
 fronts (u ∷ us) t (x ∷ front) rest e =
     let first : u ≡ x = cc in
     elim (fronts us t front rest cc)
-      [ inl h ↦ (let is = h.1 in inl (h.0, cc)) | inr h ↦ inr cc ]
+    [ inl h ↦ (let is = h.1 in inl (h.0, cc)) | inr h ↦ inr cc ]
 
 pub one_shallow : (us : List Lexeme) (t : Lexeme) → IsShallow us → left_open 0 (us ++ t ∷ []) ≤ 200 → IsShallow (us ++ t ∷ [])
 one_shallow us t shallow last front rest e = elim (fronts us t front rest e)

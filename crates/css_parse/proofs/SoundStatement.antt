@@ -130,7 +130,7 @@ mutual
         front = x.opening ∷ (x.front ++ x.closing ∷ y.front);
         parts = led x.opening x.first (followed x.parts (led x.closing refl y.parts));
         spells = λ t kind line.
-        (x.front, y.front, (t, _, refl, kind, (x.opening, _, refl, x.opens, (_, refl, (x.closing, _, refl, x.closes, refl)))), line, x.spells, y.spells);
+            (x.front, y.front, (t, _, refl, kind, (x.opening, _, refl, x.opens, (_, refl, (x.closing, _, refl, x.closes, refl)))), line, x.spells, y.spells);
         low = omega arith;
       }
   form_spelled f (reads.IfElse behind middle next c r n w) =
@@ -144,7 +144,7 @@ mutual
         front = x.opening ∷ (x.front ++ x.closing ∷ (y.front ++ n.token ∷ z.front));
         parts = led x.opening x.first (followed x.parts (led x.closing refl (followed y.parts (led n.token n.parts z.parts))));
         spells = λ t kind line.
-        (x.front, y.front, z.front, (t, _, refl, kind, (x.opening, _, refl, x.opens, (_, refl, (x.closing, _, refl, x.closes, (_, refl, (n.token, _, refl, n.is, refl)))))), line, x.spells, y.spells, takes_no_else r n, z.spells);
+            (x.front, y.front, z.front, (t, _, refl, kind, (x.opening, _, refl, x.opens, (_, refl, (x.closing, _, refl, x.closes, (_, refl, (n.token, _, refl, n.is, refl)))))), line, x.spells, y.spells, takes_no_else r n, z.spells);
         low = omega arith;
       }
   form_spelled f (reads.While behind c r) =
@@ -156,7 +156,7 @@ mutual
         front = x.opening ∷ (x.front ++ x.closing ∷ y.front);
         parts = led x.opening x.first (followed x.parts (led x.closing refl y.parts));
         spells = λ t kind line.
-        (x.front, y.front, (t, _, refl, kind, (x.opening, _, refl, x.opens, (_, refl, (x.closing, _, refl, x.closes, refl)))), line, x.spells, y.spells);
+            (x.front, y.front, (t, _, refl, kind, (x.opening, _, refl, x.opens, (_, refl, (x.closing, _, refl, x.closes, refl)))), line, x.spells, y.spells);
         low = omega arith;
       }
   form_spelled f (reads.Do behind next last r n c e) =
@@ -168,7 +168,7 @@ mutual
         front = y.front ++ n.token ∷ (x.opening ∷ (x.front ++ x.closing ∷ (e.token ∷ [])));
         parts = followed y.parts (led n.token n.parts (led x.opening x.first (followed x.parts (led x.closing refl (one_before e.parts)))));
         spells = λ t kind line.
-        (y.front, x.front, (t, _, refl, kind, (_, refl, (n.token, _, refl, n.is, (x.opening, _, refl, x.opens, (_, refl, (x.closing, _, refl, x.closes, (e.token, [], refl, e.is, refl))))))), line, y.spells, x.spells);
+            (y.front, x.front, (t, _, refl, kind, (_, refl, (n.token, _, refl, n.is, (x.opening, _, refl, x.opens, (_, refl, (x.closing, _, refl, x.closes, (e.token, [], refl, e.is, refl))))))), line, y.spells, x.spells);
         low = omega arith;
       }
   form_spelled {most} f (reads.For {start = start} {condition = condition} {step = step} behind h r) =
@@ -185,7 +185,7 @@ mutual
         front = n.token ∷ (i.front ++ (j.front ++ j.token ∷ (k.front ++ k.token ∷ y.front)));
         parts = led n.token n.parts (followed i.parts (followed j.parts (led j.token refl (followed k.parts (led k.token refl y.parts)))));
         spells = λ t kind line.
-        (i.front, j.front, k.front, y.front, (t, _, refl, kind, (n.token, _, refl, n.is, (_, refl, (_, refl, (j.token, _, refl, j.is, (_, refl, (k.token, _, refl, k.is, refl))))))), line, i.spells, j.spells, k.spells, y.spells);
+            (i.front, j.front, k.front, y.front, (t, _, refl, kind, (n.token, _, refl, n.is, (_, refl, (_, refl, (j.token, _, refl, j.is, (_, refl, (k.token, _, refl, k.is, refl))))))), line, i.spells, j.spells, k.spells, y.spells);
         low = omega arith;
       }
   form_spelled f (reads.Break n) = record {

@@ -6,10 +6,11 @@ ghost use Rattle.css_tree.specs.Shapes.{expression};
 ghost use Rattle.css_parse.specs.Readings.{ReadsExpression, ReadsOptional, ReadsCondition};
 
 use crate::fronts::after_mark;
+use crate::longest::parse_at;
 use crate::low::is_low;
 use crate::unspelled::Unspelled;
 use css_base::{FrontFault, Token};
-use css_pexpr::{Level, parse_at};
+use css_pexpr::Level;
 use css_tree::{Expression, Scope};
 use std::alloc::Global;
 

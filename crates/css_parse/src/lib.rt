@@ -12,6 +12,7 @@ mod initialiser;
 mod item;
 mod keyword;
 mod laws;
+mod longest;
 mod low;
 mod parameters;
 mod program;

@@ -293,11 +293,7 @@ fn return_statement(
 }
 
 /// What stands in a `for`'s parentheses, and the tokens behind them.
-fn for_head(
-    alloc: Global,
-    tokens: &[Token],
-    levels: u32,
-) -> Result<(ForHead, &[Token]), Unspelled>
+fn for_head(alloc: Global, tokens: &[Token], levels: u32) -> Result<(ForHead, &[Token]), Unspelled>
     requires { levels ≤ 500 }
     ensures ok { IfOk result (λ x. ReadsForHead levels (lexemes tokens.now) (for_start x.0.start)
         (option_map expression x.0.condition) (option_map expression x.0.step) (lexemes x.1.now)) }
@@ -415,5 +411,11 @@ fn entry(alloc: Global, tokens: &[Token], levels: u32) -> Result<(Entry, &[Token
 pub(crate) fn is_directive(tokens: &[Token]) -> bool
     ensures { IsTrue result ↔ ((m : spec.Mark) × (rest : List Lexeme) × ReadsMark (lexemes tokens.now) m rest) }
 {
-    matches!(tokens.first(), Some(Token { kind: TokenKind::Directive(_), .. }))
+    matches!(
+        tokens.first(),
+        Some(Token {
+            kind: TokenKind::Directive(_),
+            ..
+        })
+    )
 }

@@ -38,16 +38,31 @@ fn items(rt: HostRuntime) -> Result<(), Fail> {
     for (text, want) in [
         ("", ""),
         ("int x ;", "1:[Int] 1:x;"),
-        ("const unsigned static int * const volatile * x ;", "1:[Const Unsigned Static Int] 1:*{Const Volatile}*{}x;"),
-        ("int a , * b , c [ 2 ] [ ] ;", "1:[Int] 1:a, 1:*{}b, 1:c[2][];"),
+        (
+            "const unsigned static int * const volatile * x ;",
+            "1:[Const Unsigned Static Int] 1:*{Const Volatile}*{}x;",
+        ),
+        (
+            "int a , * b , c [ 2 ] [ ] ;",
+            "1:[Int] 1:a, 1:*{}b, 1:c[2][];",
+        ),
         ("int\nx\n,\ny ;", "1:[Int] 2:x, 4:y;"),
         ("int f ( ) ;", "1:[Int] f();"),
         ("int f ( void ) ;", "1:[Int] f(void);"),
         ("int f ( void , int ) ;", "1:[Int] f(1:[Void], 1:[Int]);"),
         ("int f ( void * ) ;", "1:[Int] f(1:[Void]*{});"),
-        ("void * f ( int a [ ] [ 3 ] , char * ) ;", "1:[Void] *{}f(1:[Int]a[][3], 1:[Char]*{});"),
-        ("# task input a\nvoid f ( void ) ;", "1:#3 2:[Void] f(void);"),
-        ("int f ( void ) { }\nint g ( void ) { }", "1:[Int] f(void)1:{} 2:[Int] g(void)2:{}"),
+        (
+            "void * f ( int a [ ] [ 3 ] , char * ) ;",
+            "1:[Void] *{}f(1:[Int]a[][3], 1:[Char]*{});",
+        ),
+        (
+            "# task input a\nvoid f ( void ) ;",
+            "1:#3 2:[Void] f(void);",
+        ),
+        (
+            "int f ( void ) { }\nint g ( void ) { }",
+            "1:[Int] f(void)1:{} 2:[Int] g(void)2:{}",
+        ),
     ] {
         assert_eq!(rt; read(alloc, text)?.as_str(), want, "{text}");
     }
@@ -63,7 +78,10 @@ fn initialisers(rt: HostRuntime) -> Result<(), Fail> {
         ("char * s = \"ab\" ;", "1:[Char] 1:*{}s=1:\"ab\";"),
         ("char * s = ( \"ab\" ) ;", "1:[Char] 1:*{}s=(text);"),
         ("int a [ ] = { 1 , 2 } ;", "1:[Int] 1:a[]=1:{1 2};"),
-        ("int a [ ] = {\n{ 1 , 2 , } , { 3 } , } ;", "1:[Int] 1:a[]=1:{2:{1 2} 2:{3}};"),
+        (
+            "int a [ ] = {\n{ 1 , 2 , } , { 3 } , } ;",
+            "1:[Int] 1:a[]=1:{2:{1 2} 2:{3}};",
+        ),
         ("int a = { } ;", "S5 Syntax 1"),
         ("int a = { , } ;", "S5 Syntax 1"),
         ("int a = { 1 , , } ;", "S5 Syntax 1"),
@@ -92,17 +110,38 @@ fn statements(rt: HostRuntime) -> Result<(), Fail> {
         ("{ ; }", "1:{1:;}"),
         ("if ( a ) ;", "1:if(a)1:;"),
         ("if ( a ) b ; else c ;", "1:if(a)1:b;else 1:c;"),
-        ("if ( a ) if ( b ) c ; else d ;", "1:if(a)1:if(b)1:c;else 1:d;"),
-        ("if ( a ) { if ( b ) c ; } else d ;", "1:if(a)1:{1:if(b)1:c;}else 1:d;"),
-        ("if ( a ) while ( b ) if ( c ) ; else d ;", "1:if(a)1:while(b)1:if(c)1:;else 1:d;"),
-        ("if ( a ) do if ( b ) ; while ( c ) ; else d ;", "1:if(a)1:do 1:if(b)1:;while(c);else 1:d;"),
-        ("if ( a ) ; else if ( b ) ; else c ;", "1:if(a)1:;else 1:if(b)1:;else 1:c;"),
+        (
+            "if ( a ) if ( b ) c ; else d ;",
+            "1:if(a)1:if(b)1:c;else 1:d;",
+        ),
+        (
+            "if ( a ) { if ( b ) c ; } else d ;",
+            "1:if(a)1:{1:if(b)1:c;}else 1:d;",
+        ),
+        (
+            "if ( a ) while ( b ) if ( c ) ; else d ;",
+            "1:if(a)1:while(b)1:if(c)1:;else 1:d;",
+        ),
+        (
+            "if ( a ) do if ( b ) ; while ( c ) ; else d ;",
+            "1:if(a)1:do 1:if(b)1:;while(c);else 1:d;",
+        ),
+        (
+            "if ( a ) ; else if ( b ) ; else c ;",
+            "1:if(a)1:;else 1:if(b)1:;else 1:c;",
+        ),
         ("while ( a )\nb ;", "1:while(a)2:b;"),
         ("do a ; while ( b ) ;", "1:do 1:a;while(b);"),
         ("for ( ; ; ) ;", "1:for(;;)1:;"),
         ("for ( a ; b ; c ) ;", "1:for(a;b;c)1:;"),
-        ("for ( int i = 0 , j ; b ; ) ;", "1:for(1:[Int] 1:i=0, 1:j;b;)1:;"),
-        ("break ; continue ; return ; return a ;", "1:break; 1:continue; 1:return; 1:return a;"),
+        (
+            "for ( int i = 0 , j ; b ; ) ;",
+            "1:for(1:[Int] 1:i=0, 1:j;b;)1:;",
+        ),
+        (
+            "break ; continue ; return ; return a ;",
+            "1:break; 1:continue; 1:return; 1:return a;",
+        ),
         ("int x ; x ; int y ;", "1:[Int] 1:x; 1:x; 1:[Int] 1:y;"),
         ("\n# wait on a\n;", "2:#3 3:;"),
     ] {
@@ -205,25 +244,79 @@ fn limits(rt: HostRuntime) -> Result<(), Fail> {
     let alloc = rt.alloc();
     for (parts, most, rule) in [
         // The function's brace and 199 others.
-        (["int f ( ) { ", "{ ", "", "} ", "}"], 199, StaticName::TooDeep),
-        (["int a = ", "{ ", "1 ", "} ", ";"], 200, StaticName::TooDeep),
-        (["int f ( ) { ", "# ( [ {\n", "", "", "}"], 1000, StaticName::NotBuilt),
+        (
+            ["int f ( ) { ", "{ ", "", "} ", "}"],
+            199,
+            StaticName::TooDeep,
+        ),
+        (
+            ["int a = ", "{ ", "1 ", "} ", ";"],
+            200,
+            StaticName::TooDeep,
+        ),
+        (
+            ["int f ( ) { ", "# ( [ {\n", "", "", "}"],
+            1000,
+            StaticName::NotBuilt,
+        ),
         // The item, its block, 497 headers and the empty statement.
-        (["int f ( ) { ", "if ( a ) ", "; ", "", "}"], 497, StaticName::Syntax),
-        (["int f ( ) { ", "if ( a ) ; else ", "; ", "", "}"], 497, StaticName::Syntax),
-        (["int f ( ) { ", "while ( a ) ", "; ", "", "}"], 497, StaticName::Syntax),
-        (["int f ( ) { ", "for ( ; ; ) ", "; ", "", "}"], 497, StaticName::Syntax),
-        (["int f ( ) { ", "do ", "; ", "while ( a ) ; ", "}"], 497, StaticName::Syntax),
+        (
+            ["int f ( ) { ", "if ( a ) ", "; ", "", "}"],
+            497,
+            StaticName::Syntax,
+        ),
+        (
+            ["int f ( ) { ", "if ( a ) ; else ", "; ", "", "}"],
+            497,
+            StaticName::Syntax,
+        ),
+        (
+            ["int f ( ) { ", "while ( a ) ", "; ", "", "}"],
+            497,
+            StaticName::Syntax,
+        ),
+        (
+            ["int f ( ) { ", "for ( ; ; ) ", "; ", "", "}"],
+            497,
+            StaticName::Syntax,
+        ),
+        (
+            ["int f ( ) { ", "do ", "; ", "while ( a ) ; ", "}"],
+            497,
+            StaticName::Syntax,
+        ),
         // One more level is the expression's.
-        (["int f ( ) { ", "while ( a ) ", "a ; ", "", "}"], 496, StaticName::Syntax),
+        (
+            ["int f ( ) { ", "while ( a ) ", "a ; ", "", "}"],
+            496,
+            StaticName::Syntax,
+        ),
         // A string in a declaration adds none.
-        (["int f ( ) { ", "if ( a ) ", "{ char s [ ] = \"a\" ; } ", "", "}"], 496, StaticName::Syntax),
+        (
+            [
+                "int f ( ) { ",
+                "if ( a ) ",
+                "{ char s [ ] = \"a\" ; } ",
+                "",
+                "}",
+            ],
+            496,
+            StaticName::Syntax,
+        ),
     ] {
         let last = nested(alloc, parts, most)?;
-        assert!(rt; outcome(alloc, last.as_str())?.is_none(), "{most} of {}", parts[1]);
+        assert!(rt;
+            outcome(alloc, last.as_str())?.is_none(),
+            "{most} of {}",
+            parts[1]
+        );
         if rule != StaticName::NotBuilt {
             let more = nested(alloc, parts, most + 1)?;
-            assert!(rt; outcome(alloc, more.as_str())? == Some(rule), "more than {most} of {}", parts[1]);
+            assert!(rt;
+                outcome(alloc, more.as_str())? == Some(rule),
+                "more than {most} of {}",
+                parts[1]
+            );
         }
     }
     Ok(())

@@ -1,9 +1,14 @@
+mod Balance
 mod Caps
 mod Completeness
 mod Families
 mod Holding
+pub mod Longest
+mod Parts
 mod Reached
+mod Rows
 mod Runs
+mod Search
 mod Signs
 mod Soundness
 mod Stacking

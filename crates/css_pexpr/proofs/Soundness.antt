@@ -168,22 +168,28 @@ module _ (m : Manner) (low_level : m.level ≤ 2) where
       ap (λ l. l ++ t ∷ []) (r.parts ∙ ap (λ l. l ++ r.back) (hold.2 ∙ ap (λ l. hold.0 ++ l) p.parts))
       ∙ ap (λ l. l ++ t ∷ []) (append_assoc hold.0 (p.token ∷ p.first ∷ p.us) r.back) ∙ append_assoc hold.0 ((p.token ∷ p.first ∷ p.us) ++ r.back) (t ∷ [])
       ∙ ap (λ l. hold.0 ++ p.token ∷ p.first ∷ l) (append_assoc p.us r.back (t ∷ [])) in
-      subst (λ s. Valid m s (us ++ t ∷ [])) same
-      (hold.0, p.token ∷ p.first ∷ rest, parts, hold.3, record {
-        token = p.token;
-        first = p.first;
-        us = rest;
-        name = p.name;
-        all = p.all ++ r.tree ∷ [];
-        parts = refl;
-        is = p.is;
-        named = p.named;
-        opens = p.opens;
-        line_is = p.line_is;
-        callee_is = p.callee_is;
-        before_is = ap₂ with_argument p.before_is r.node_is ∙ with_argument_capped m.most p.all r.tree;
-        spells = passed p.us r.back t p.all r.tree is p.spells argument;
-      }, hold.5)
+      subst (λ s. Valid m s (us ++ t ∷ [])) same (
+        hold.0,
+        p.token ∷ p.first ∷ rest,
+        parts,
+        hold.3,
+        record {
+          token = p.token;
+          first = p.first;
+          us = rest;
+          name = p.name;
+          all = p.all ++ r.tree ∷ [];
+          parts = refl;
+          is = p.is;
+          named = p.named;
+          opens = p.opens;
+          line_is = p.line_is;
+          callee_is = p.callee_is;
+          before_is = ap₂ with_argument p.before_is r.node_is ∙ with_argument_capped m.most p.all r.tree;
+          spells = passed p.us r.back t p.all r.tree is p.spells argument;
+        },
+        hold.5,
+      )
   comma_valid (f ∷ frames) x us t next is r h = joint_valid joints.Comma (f ∷ frames) x us t next is r h
 
   pub joined_valid : (j : Joint) (frames : Stack) (x : Operand) (us : List Lexeme) (t : Lexeme) (next : State) → kind_at t ≡ Punctuator (joint_text j) → Read m frames x us → joined m j frames x ≡ Some next → Valid m next (us ++ t ∷ [])
@@ -198,28 +204,42 @@ module _ (m : Manner) (low_level : m.level ≤ 2) where
       let hold = r.holds in
       let parts : us ++ t ∷ [] ≡ hold.0 ++ (hold.1 ++ (r.back ++ t ∷ [])) =
       ap (λ l. l ++ t ∷ []) (r.parts ∙ ap (λ l. l ++ r.back) hold.2) ∙ append_assoc (hold.0 ++ hold.1) r.back (t ∷ []) ∙ append_assoc hold.0 hold.1 (r.back ++ t ∷ []) in
-      subst (λ s. Valid m s (us ++ t ∷ [])) same
-      (hold.0, hold.1 ++ (r.back ++ t ∷ []), parts, hold.3, record {
-        front = hold.1;
-        back = r.back ++ t ∷ [];
-        parts = refl;
-        asks = hold.4;
-        gives = r.tree;
-        middle = r.back;
-        colon = t;
-        back_parts = refl;
-        is = is;
-        spells = looser (omega arith) r.spells;
-        node_is = r.node_is;
-      }, hold.5)
+      subst (λ s. Valid m s (us ++ t ∷ [])) same (
+        hold.0,
+        hold.1 ++ (r.back ++ t ∷ []),
+        parts,
+        hold.3,
+        record {
+          front = hold.1;
+          back = r.back ++ t ∷ [];
+          parts = refl;
+          asks = hold.4;
+          gives = r.tree;
+          middle = r.back;
+          colon = t;
+          back_parts = refl;
+          is = is;
+          spells = looser (omega arith) r.spells;
+          node_is = r.node_is;
+        },
+        hold.5,
+      )
   divided_valid frames x us t next is r h = absurd cc
 
   -- an operand that was closed
   pub closed_read : (frames : Stack) (us vs ws : List Lexeme) (line : ℕ) (n : Node) (e : Expression) → us ≡ vs ++ ws → Holds m frames vs → SpellsExpression m.scope 15 ws e → n ≡ capped m.most e → first_line ws ≡ line
       → Read m frames (operand 15 line n) us
   closed_read frames us vs ws line n e parts holds spells node_is line_is = record {
-    front = vs; back = ws; tree = e; parts = parts; holds = holds; spells = spells; node_is = node_is; line_is = line_is;
-    wants = let b = wanted_bound frames in omega arith; most_is = omega arith;
+    front = vs;
+    back = ws;
+    tree = e;
+    parts = parts;
+    holds = holds;
+    spells = spells;
+    node_is = node_is;
+    line_is = line_is;
+    wants = let b = wanted_bound frames in omega arith;
+    most_is = omega arith;
   }
 
   pub grouped_valid : (frames : Stack) (x : Operand) (us : List Lexeme) (t : Lexeme) (next : State) → kind_at t ≡ Punctuator (codes ")") → Read m frames x us → grouped m frames x ≡ Some next → Valid m next (us ++ t ∷ [])

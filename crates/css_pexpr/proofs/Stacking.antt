@@ -1,5 +1,6 @@
 -- The frames in the order of the code, and the last one first.
-use Rattle.std.proofs.Common.{◌≡◌, ℕ, ◌+◌, ◌<◌, ◌≤◌, Bool, true, false, List, [], ◌∷◌, ◌++◌, length, refl, sym, ap, ◌∙◌, arith, if◌then◌else◌}
+use Rattle.std.proofs.Common.{◌≡◌, ℕ, zero, suc, ◌+◌, ◌-◌, ◌<◌, ◌≤◌, Bool, true, false, List, [], ◌∷◌, ◌++◌, length, slice_get, Option, Some, None, refl, sym, ap, ◌∙◌, arith, if◌then◌else◌}
+use Rattle.std.proofs.lemmas.Option.{slice_get_within}
 use Rattle.css_pexpr.specs.declared.frame.Frame as framed
 use Rattle.css_pexpr.specs.Frames.{Stack, is_open, open_frames, is_closed}
 use Rattle.css_pexpr.specs.Shapes.{frame, onto}
@@ -40,3 +41,17 @@ open_bound (f ∷ fs) stack = let r = open_bound fs (frame f ∷ stack) in let s
 
 pub few_open : (fs : List framed.Frame) → open_frames (onto fs []) ≤ length fs
 few_open fs = let r = open_bound fs [] in omega arith
+
+-- the last one of a list
+last_of : {A : Type 0} (xs : List A) (k : ℕ) (x : A) → k + 1 ≡ length xs → slice_get xs k ≡ Some x → (ys : List A) × (xs ≡ ys ++ x ∷ [])
+last_of [] k x long h = absurd (omega arith)
+last_of (y ∷ []) zero x long h = let same : y ≡ x = cc in ([], ap (λ z. z ∷ []) same)
+last_of (y ∷ []) (suc k) x long h = absurd (omega arith)
+last_of (y ∷ z ∷ zs) zero x long h = absurd (omega arith)
+last_of (y ∷ z ∷ zs) (suc k) x long h = let r = last_of (z ∷ zs) k x (omega arith) h in (y ∷ r.0, ap (λ l. y ∷ l) r.1)
+
+pub last_frame : (items fs : List framed.Frame) (f : framed.Frame) → items ≡ fs → Some f ≡ slice_get fs (length fs - 1) → (others : Stack) × (onto items [] ≡ frame f ∷ others)
+last_frame items fs f e h =
+    let within = slice_get_within fs (length fs - 1) f (sym h) in
+    let r = last_of fs (length fs - 1) f (omega arith) (sym h) in
+    (onto r.0 [], ap (λ l. onto l []) (e ∙ r.1) ∙ onto-last r.0 f [])

@@ -51,7 +51,7 @@ divide (t ∷ ts) (u ∷ us) vs e =
     let left_is = rest.left_is in
     record { left = t ∷ rest.left; right = rest.right; parts = cc; left_is = cc; right_is = rest.right_is }
 
-at_last-behind : (done : Stars) (star : List Qualifier) (q : Qualifier) → at_last (done ++ star ∷ []) q ≡ done ++ (star ++ q ∷ []) ∷ []
+pub at_last-behind : (done : Stars) (star : List Qualifier) (q : Qualifier) → at_last (done ++ star ∷ []) q ≡ done ++ (star ++ q ∷ []) ∷ []
 at_last-behind [] star q = refl
 at_last-behind (s ∷ []) star q = refl
 at_last-behind (s ∷ t ∷ done) star q = ap (λ l. s ∷ l) (at_last-behind (t ∷ done) star q)

@@ -95,9 +95,14 @@ module _ (m : Manner) (low_level : m.level ≤ 2) where
       let at : x.level ≡ 15 = omega arith in
       let d : SpellsExpression m.scope 15 r.back r.tree = subst (λ n. SpellsExpression m.scope n r.back r.tree) at r.spells in
       let b = wanted_bound m low_level frames in
-      subst (λ s. Valid m s (us ++ t ∷ [])) f.1
-      (r.front, r.back ++ t ∷ [], ap (λ l. l ++ t ∷ []) r.parts ∙ append_assoc r.front r.back (t ∷ []), r.holds,
-      record { tree = r.tree; front = r.back; token = t; parts = refl; is = is; spells = d; node_is = r.node_is; line_is = r.line_is }, omega arith)
+      subst (λ s. Valid m s (us ++ t ∷ [])) f.1 (
+        r.front,
+        r.back ++ t ∷ [],
+        ap (λ l. l ++ t ∷ []) r.parts ∙ append_assoc r.front r.back (t ∷ []),
+        r.holds,
+        record { tree = r.tree; front = r.back; token = t; parts = refl; is = is; spells = d; node_is = r.node_is; line_is = r.line_is },
+        omega arith,
+      )
 
   call_valid : (frames : Stack) (is_name : Bool) (x : Operand) (us : List Lexeme) (t : Lexeme) (next : State) → kind_at t ≡ Punctuator (codes "(") → Valid m (Has frames is_name x) us
       → (if is_name then Some (Wants (Passing x.line x.node (Some []) ∷ frames)) else None) ≡ Some next → Valid m next (us ++ t ∷ [])
@@ -106,22 +111,28 @@ module _ (m : Manner) (low_level : m.level ≤ 2) where
       let same : Wants (Passing x.line x.node (Some []) ∷ frames) ≡ next = cc in
       let n = v.1 in
       let b = wanted_bound m low_level frames in
-      subst (λ s. Valid m s (us ++ t ∷ [])) same
-      (n.front, n.token ∷ t ∷ [], ap (λ l. l ++ t ∷ []) n.parts ∙ append_assoc n.front (n.token ∷ []) (t ∷ []), v.2, record {
-        token = n.token;
-        first = t;
-        us = [];
-        name = n.name;
-        all = [];
-        parts = refl;
-        is = n.is;
-        named = n.named;
-        opens = is;
-        line_is = n.line_is;
-        callee_is = n.node_is;
-        before_is = sym (no_arguments m.most);
-        spells = record { none = λ h. refl; goes_on = λ vs e tail others d more. first_argument vs tail e others d more };
-      }, omega arith)
+      subst (λ s. Valid m s (us ++ t ∷ [])) same (
+        n.front,
+        n.token ∷ t ∷ [],
+        ap (λ l. l ++ t ∷ []) n.parts ∙ append_assoc n.front (n.token ∷ []) (t ∷ []),
+        v.2,
+        record {
+          token = n.token;
+          first = t;
+          us = [];
+          name = n.name;
+          all = [];
+          parts = refl;
+          is = n.is;
+          named = n.named;
+          opens = is;
+          line_is = n.line_is;
+          callee_is = n.node_is;
+          before_is = sym (no_arguments m.most);
+          spells = record { none = λ h. refl; goes_on = λ vs e tail others d more. first_argument vs tail e others d more };
+        },
+        omega arith,
+      )
     where
       first_argument : (vs tail : List Lexeme) (e : Expression) (others : tree.Expressions) → SpellsExpression m.scope 1 vs e → SpellsFurther m.scope tail others → SpellsArguments m.scope (vs ++ tail) (tree.More e others)
       first_argument vs tail e others d more = Arguments vs tail refl d more
@@ -243,9 +254,11 @@ module _ (m : Manner) (low_level : m.level ≤ 2) where
   named_valid true bytes frames us t next e is v h = absurd cc
   named_valid false bytes frames us t next e is v h =
       let same : Has frames true (operand 15 (line_of t) (capped m.most (tree.Name (line_of t) bytes))) ≡ next = cc in
-      subst (λ s. Valid m s (us ++ t ∷ [])) same
-      (token_read frames us t (tree.Name (line_of t) bytes) v (Name bytes refl (t, [], refl, is, refl) e),
-      record { token = t; name = bytes; front = us; parts = refl; is = is; named = e; line_is = refl; node_is = refl }, v)
+      subst (λ s. Valid m s (us ++ t ∷ [])) same (
+        token_read frames us t (tree.Name (line_of t) bytes) v (Name bytes refl (t, [], refl, is, refl) e),
+        record { token = t; name = bytes; front = us; parts = refl; is = is; named = e; line_is = refl; node_is = refl },
+        v,
+      )
 
   keyed_valid : (b : Bool) (bytes : List ℕ) (frames : Stack) (us : List Lexeme) (t : Lexeme) (next : State) → kind_at t ≡ Word bytes → Holds m frames us
       → (if b then begun m frames (specifier_of m.scope bytes) else named m frames (line_of t) bytes) ≡ Some next → Valid m next (us ++ t ∷ [])
@@ -278,9 +291,14 @@ module _ (m : Manner) (low_level : m.level ≤ 2) where
 
   cast_valid : (frames : Stack) (line : ℕ) (type : TypeName) (us : List Lexeme) (t : Lexeme) → kind_at t ≡ Punctuator (codes ")") → wanted m.level frames ≤ 13 → IsTyped m frames line type us
       → Holds m (Casting line type ∷ frames) (us ++ t ∷ [])
-  cast_valid frames line type us t is low v =
-      (v.front, v.token ∷ (v.words ++ t ∷ []), ap (λ l. l ++ t ∷ []) v.parts ∙ append_assoc v.front (v.token ∷ v.words) (t ∷ []), v.holds,
-      record { first = v.token; words = v.words; last = t; parts = refl; is = v.is; line_is = v.line_is; spells = v.spells; ends = is }, low)
+  cast_valid frames line type us t is low v = (
+    v.front,
+    v.token ∷ (v.words ++ t ∷ []),
+    ap (λ l. l ++ t ∷ []) v.parts ∙ append_assoc v.front (v.token ∷ v.words) (t ∷ []),
+    v.holds,
+    record { first = v.token; words = v.words; last = t; parts = refl; is = v.is; line_is = v.line_is; spells = v.spells; ends = is },
+    low,
+  )
 
   ended_valid : (frames : Stack) (line : ℕ) (type : TypeName) (us : List Lexeme) (t : Lexeme) → kind_at t ≡ Punctuator (codes ")") → IsTyped m frames line type us → Valid m (ended m frames line type) (us ++ t ∷ [])
   ended_valid [] line type us t is v = cast_valid [] line type us t is (omega arith) v

@@ -110,6 +110,11 @@ wanted level (Element line array ∷ frames) = expr
 wanted level (Question line condition ∷ frames) = expr
 wanted level (Passing line callee before ∷ frames) = assign
 
+-- the line of the last frame, if it is that of `sizeof`
+abbrev pub last_sizeof : Stack → Option ℕ
+last_sizeof (Pre line prefixes.Sizeof ∷ frames) = Some line
+last_sizeof frames = None
+
 -- ---- putting together
 
 abbrev pub prefixed : Prefix → ℕ → Expression → Expression

@@ -5,3 +5,4 @@ pub mod Reading
 pub mod Shapes
 pub mod Signs
 pub mod Stacks
+pub mod States

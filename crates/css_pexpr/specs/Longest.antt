@@ -26,6 +26,13 @@ pub record IsLongest (scope : Scope) (level : Level) (ts : List Lexeme) (e : Exp
   pub longest : (more behind : List Lexeme) (other : Expression) → ts ≡ more ++ behind
       → SpellsExpression scope (level_number level) more other → length more ≤ length front
 
+-- The first tokens, so many, are the longest expression at the front, and it has at most 500 levels.
+pub record IsPart (scope : Scope) (level : Level) (ts : List Lexeme) (e : Expression) (count : ℕ) : Type 0 where
+  pub some : 0 < count
+  pub within : count ≤ length ts
+  pub longest : IsLongest scope level ts e (drop count ts)
+  pub low : height e ≤ 500
+
 -- An expression was read from a place on, up to another: the longest one, which has at most 500 levels.
 pub record IsRead (scope : Scope) (level : Level) (ts : List Lexeme) (from : ℕ) (e : Expression) (end : ℕ) : Type 0 where
   pub forward : from < end

@@ -17,7 +17,7 @@ use Rattle.css_pexpr.specs.declared.follow.Joint.TheVariants as joints
 use Rattle.css_pexpr.specs.declared.follow.Follow.{Follow}
 use Rattle.css_pexpr.specs.declared.follow.Follow.TheVariants as follows
 use Rattle.css_pexpr.specs.Signs.{lead_spelled, follow_spelled, specifier_of, qualifier_spelled, reduce_level, left_level, own_level}
-use Rattle.css_pexpr.specs.Frames.{capped, made_of, made_of_two, with_argument, called, Operand, operand, Frame, Pre, Casting, Otherwise, Group, Element, Question, Passing, Stack, wanted, reduce, is_closed, joint_frame}
+use Rattle.css_pexpr.specs.Frames.{Node, capped, made_of, made_of_two, with_argument, called, Operand, operand, Frame, Pre, Casting, Otherwise, Group, Element, Question, Passing, Stack, wanted, reduce, is_closed, joint_frame}
 
 -- What was read: frames that want an operand; an operand behind frames, which may be a name alone; a type behind a
 -- parenthesis, so far.
@@ -99,11 +99,15 @@ step_wanting m frames line (tokens.Directive words) = None
 
 -- ---- behind an operand
 
+-- an operator, where its left operand and the frames take it
+abbrev pub taken : Manner → Joint → Stack → Operand → Option State
+taken m joint frames x =
+    if nat_le (left_level joint) x.level && nat_le (wanted m.level frames) (own_level joint) then Some (Wants (joint_frame joint x.line x.node ∷ frames)) else None
+
 -- a joint behind what was put together: the comma of a call's arguments, or an operator
 abbrev pub joined : Manner → Joint → Stack → Operand → Option State
 joined m joints.Comma (Passing line callee before ∷ frames) x = Some (Wants (Passing line callee (with_argument before x.node) ∷ frames))
-joined m joint frames x =
-    if nat_le (left_level joint) x.level && nat_le (wanted m.level frames) (own_level joint) then Some (Wants (joint_frame joint x.line x.node ∷ frames)) else None
+joined m joint frames x = taken m joint frames x
 
 -- a colon, a parenthesis and a bracket behind what was put together
 abbrev pub divided : Stack → Operand → Option State
@@ -157,3 +161,26 @@ start = Wants []
 abbrev pub is_whole : State → Bool
 is_whole (Has frames is_name x) = is_closed frames
 is_whole _ = false
+
+-- the node of what was read, put together
+abbrev pub node_of : Manner → State → Node
+node_of m (Has frames is_name x) = (reduce m.most expr frames x).operand.node
+node_of m s = None
+
+abbrev pub finished : Manner → State → Node
+finished m s = if is_whole s then node_of m s else None
+
+-- the expression that tokens are behind a state
+abbrev pub built : Manner → State → List Lexeme → Node
+built m s [] = finished m s
+built m s (t ∷ ts) = option_and_then (λ next. built m next ts) (step m s t)
+
+-- how many tokens there are up to the last place where what was read is whole, of which so many were read and the last such
+-- place so far is known
+abbrev pub next_best : Option ℕ → (State → Option ℕ) → Option State → Option ℕ
+next_best best goes None = best
+next_best best goes (Some next) = goes next
+
+abbrev pub longest_from : Manner → State → ℕ → Option ℕ → List Lexeme → Option ℕ
+longest_from m s count best [] = best
+longest_from m s count best (t ∷ ts) = next_best best (λ next. longest_from m next (count + 1) (if is_whole next then Some (count + 1) else best) ts) (step m s t)

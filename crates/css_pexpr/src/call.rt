@@ -42,15 +42,10 @@ pub(crate) fn with_argument(
 
 /// A call of the name that was read, with these arguments.
 #[tactic(auto, unfolding(crate::specs::Frames::capped))]
-pub(crate) fn called(
-    most: u32,
-    line: Line,
-    callee: Node,
-    arguments: Option<Arguments>,
-) -> Node
-    ensures { node result ≡ called most line (node callee) (arguments arguments) }
+pub(crate) fn called(most: u32, line: Line, callee: Node, given: Option<Arguments>) -> Node
+    ensures { node result ≡ called most line (node callee) (arguments given) }
 {
-    let Some(given) = arguments else {
+    let Some(given) = given else {
         return None;
     };
     let Some(callee) = callee else {
@@ -60,15 +55,14 @@ pub(crate) fn called(
         return None;
     }
     let levels = given.levels + 1;
-    match callee.tree {
-        Expression::Name { name, .. } => Some(Known {
-            tree: Expression::Call {
-                line,
-                name,
-                arguments: given.all,
-            },
-            levels,
-        }),
-        _ => None,
-    }
+    let Known { tree, .. } = callee;
+    let Expression::Name { name, .. } = tree else {
+        return None;
+    };
+    let tree = Expression::Call {
+        line,
+        name,
+        arguments: given.all,
+    };
+    Some(Known { tree, levels })
 }

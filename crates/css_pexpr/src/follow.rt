@@ -1,5 +1,5 @@
 //! What stands behind an operand.
-ghost use Rattle.std.specs.Prelude.{◌≡◌};
+ghost use Rattle.std.specs.Prelude.{◌≡◌, ◌≤◌};
 ghost use Rattle.css_tree.specs.Expressions.{binary_text, assign_text, level_of};
 ghost use Rattle.css_pexpr.specs.Signs.{joint_text, own_level, left_level, reduce_level, follow_text, follow_spelled};
 
@@ -155,7 +155,8 @@ fn binary_text(operator: BinaryOperator) -> &'static [u8]
 
 /// The level of the binary operator (C99 6.5.5 to 6.5.14).
 pub(crate) fn level_of(operator: BinaryOperator) -> u8
-    ensures { result ≡ level_of operator }
+    ensures value { result ≡ level_of operator }
+    ensures low { result ≤ 12 }
 {
     match operator {
         BinaryOperator::Or => 3,
@@ -217,5 +218,8 @@ impl Joint {
 pub(crate) fn follow_spelled(bytes: &[u8]) -> Option<Follow>
     ensures { result ≡ follow_spelled bytes.now }
 {
-    FOLLOWS.iter().copied().find(|follow| follow.text() == bytes)
+    FOLLOWS
+        .iter()
+        .copied()
+        .find(|follow| follow.text() == bytes)
 }

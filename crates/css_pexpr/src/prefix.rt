@@ -1,6 +1,7 @@
 //! What begins an operand.
 ghost use Rattle.std.specs.Prelude.{◌≡◌};
 ghost use Rattle.css_tree.specs.Expressions.{unary_text};
+ghost use Rattle.css_pexpr.specs.Frames.{operand_level};
 ghost use Rattle.css_pexpr.specs.Signs.{prefix_text, lead_text, lead_spelled};
 
 use css_tree::UnaryOperator;
@@ -86,4 +87,14 @@ pub(crate) fn lead_spelled(bytes: &[u8]) -> Option<Lead>
     ensures { result ≡ lead_spelled bytes.now }
 {
     LEADS.iter().copied().find(|lead| lead.text() == bytes)
+}
+
+/// The level of the operator's operand.
+pub(crate) fn operand_level(prefix: Prefix) -> u8
+    ensures { result ≡ operand_level prefix }
+{
+    match prefix {
+        Prefix::Operator(_) => 13,
+        Prefix::Increment | Prefix::Decrement | Prefix::Sizeof => 14,
+    }
 }

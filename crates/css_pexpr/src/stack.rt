@@ -4,6 +4,7 @@ ghost use Rattle.css_pexpr.specs.Frames.{open_frames};
 ghost use Rattle.css_pexpr.specs.Shapes.{onto};
 
 use crate::frame::Frame;
+use css_base::Line;
 use std::alloc::{AllocError, Global};
 
 /// Frames, of which the last one is next.
@@ -17,7 +18,8 @@ pub(crate) struct Stack {
 
 impl Stack {
     ghost use Rattle.std.specs.Prelude.{◌≡◌, [], ◌∷◌, OnOk, IfSome, IfNone};
-    ghost use Rattle.css_pexpr.specs.Frames.{is_closed};
+    ghost use Rattle.css_pexpr.specs.Frames.{is_closed, wanted, last_sizeof};
+    ghost use Rattle.css_pexpr.specs.Reading.{takes_type};
     ghost use Rattle.css_pexpr.specs.Shapes.{frame};
     ghost use Rattle.css_pexpr.specs.Stacks.{stack};
 
@@ -62,5 +64,32 @@ impl Stack {
             self.unclosed -= 1;
         }
         Some(last)
+    }
+
+    /// The loosest level that is wanted behind the frames, and where there is none.
+    pub(crate) fn wanted(&self, level: u8) -> u8
+        ensures { result ≡ wanted level (stack self.now) }
+    {
+        match self.frames.last() {
+            Some(last) => last.wanted(),
+            None => level,
+        }
+    }
+
+    /// The line of the last frame, if it is that of `sizeof`.
+    pub(crate) fn last_sizeof(&self) -> Option<Line>
+        ensures { result ≡ last_sizeof (stack self.now) }
+    {
+        match self.frames.last() {
+            Some(last) => last.sizeof_line(),
+            None => None,
+        }
+    }
+
+    /// Whether a type may stand here: in a cast, or behind `sizeof`.
+    pub(crate) fn takes_type(&self, level: u8) -> bool
+        ensures { result ≡ takes_type level (stack self.now) }
+    {
+        self.last_sizeof().is_some() || self.wanted(level) <= 13
     }
 }

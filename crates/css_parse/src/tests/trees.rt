@@ -1,8 +1,8 @@
 //! Trees as text, each node with its line.
 use css_base::Bytes;
 use css_tree::{
-    Block, Declaration, Declarator, Entry, Expression, ForStart, Initialiser, Item, Mark, Parameter,
-    Parameters, Specifier, Star, Statement,
+    Block, Declaration, Declarator, Entry, Expression, ForStart, Initialiser, Item, Mark,
+    Parameter, Parameters, Specifier, Star, Statement,
 };
 use std::alloc::AllocError;
 
