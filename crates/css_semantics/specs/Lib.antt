@@ -8,3 +8,4 @@ pub mod Pending
 pub mod Rules
 pub mod Clear
 pub mod Verdict
+pub mod Alone
