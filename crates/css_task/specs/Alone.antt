@@ -1,0 +1,44 @@
+-- What a task's run by itself comes to.
+use Rattle.std.specs.Prelude.{◌≡◌, ℕ, List, map, All, Some, slice_get}
+use Rattle.css_base.specs.declared.direction.Direction.TheVariants.{InOut}
+use Rattle.css_base.specs.declared.limits.Limits.{Limits}
+use Rattle.css_semantics.specs.Dialogue.{Tape, Goes, Stops, Stopped}
+use Rattle.css_semantics.specs.Tasks.{Use}
+use Rattle.css_semantics.specs.Alone.{alone_world, outs_after}
+use Rattle.css_vm.specs.Code.{Routine, Shape, Code}
+use Rattle.css_vm.specs.Machine.{alone}
+use Rattle.css_record.specs.declared.task_record.TaskRecord.{TaskRecord}
+use Rattle.css_record.specs.Records.{FitsCode, uses, arguments, InputsFit}
+use Rattle.css_task.specs.declared.shared.SharedEnd.{SharedEnd}
+use Rattle.css_task.specs.declared.shared.SharedEnd.TheVariants as ends
+
+-- the routine and the shape of a record's task
+pub record TaskOf (code : Code) (r : TaskRecord) (f : Routine) (s : Shape) : Type 0 where
+  pub function : slice_get code.functions r.function ≡ Some f
+  pub task : f.task ≡ Some s
+
+-- each window is read and written, and is one row
+abbrev pub IsPlainUse : Use → Type 0
+IsPlainUse u = (u.direction ≡ InOut) × (u.window.rows ≡ 1)
+
+abbrev pub IsPlainTask : Code → TaskRecord → Type 0
+IsPlainTask code r = (f : Routine) (s : Shape) → TaskOf code r f s → All IsPlainUse (uses s r)
+
+-- the buffers are the inputs of the record's reading parameters
+abbrev pub InputsOf : Code → TaskRecord → (inputs : List (List ℕ)) → Type 0
+InputsOf code r inputs = (f : Routine) (s : Shape) → TaskOf code r f s → InputsFit (uses s r) inputs
+
+-- In the world of its windows, with these inputs, its stack place and so many units, the task's body comes to this end.
+abbrev pub EndsAs : Code → TaskRecord → Shape → (inputs : List (List ℕ)) → Limits → SharedEnd → Type 0
+EndsAs code r s inputs limits (ends.Outs outs) =
+    (n : ℕ) × (cell : ℕ) × (tape : Tape)
+    × (alone (alone_world limits (uses s r) inputs r.stack_place) code r.function (arguments s r) r.line n ≡ Goes (Some cell) tape)
+    × (outs.items ≡ outs_after (uses s r) inputs r.stack_place tape)
+EndsAs code r s inputs limits (ends.Stopped stop line) =
+    (n : ℕ) × (tape : Tape)
+    × (alone (alone_world limits (uses s r) inputs r.stack_place) code r.function (arguments s r) r.line n ≡ Stops (Stopped stop line) tape)
+
+-- The task alone comes to this end: the limits matter by the task's units only.
+abbrev pub IsAlone : Code → TaskRecord → (inputs : List (List ℕ)) → (units : ℕ) → SharedEnd → Type 0
+IsAlone code r inputs units end =
+    (f : Routine) (s : Shape) (limits : Limits) → TaskOf code r f s → limits.task_units ≡ units → EndsAs code r s inputs limits end

@@ -1,0 +1,6 @@
+//! Tasks by themselves.
+#![tactic(auto)]
+
+mod shared;
+
+pub use shared::{SharedEnd, run_shared};
