@@ -1,6 +1,6 @@
 -- Worlds that keep a state, which is folded over the tape.
-use Rattle.std.specs.Prelude.{◌≡◌, [], ◌∷◌, Bool, true, false, IsTrue}
-use Rattle.css_semantics.specs.Dialogue.{Action, Enter, Turn, Leave, Load, Store, Item, Tape, Reply, World}
+use Rattle.std.specs.Prelude.{◌≡◌, List, [], ◌∷◌, ◌++◌, Bool, true, false, ◌||◌, IsTrue}
+use Rattle.css_semantics.specs.Dialogue.{Action, Enter, Turn, Leave, Load, Store, Fault, Item, Tape, Reply, World}
 
 -- the state after a tape, from a first one
 abbrev pub state_after : {S : Type 0} → (S → Action → S) → S → Tape → S
@@ -20,7 +20,17 @@ is_of_machine (Load address width) = true
 is_of_machine (Store address bytes) = true
 is_of_machine _ = false
 
--- A world replies to the actions of a machine as a state does, from a first one, and other actions leave the state as it is.
-pub record Follows {S : Type 0} (w : World) (reply : S → Action → Reply) (learn : S → Action → S) (start : S) : Type 0 where
-  pub replies : (tape : Tape) (i : Item) → IsTrue (is_of_machine i.action) → w tape i ≡ reply (state_after learn start tape) i.action
-  pub keeps : (s : S) (action : Action) → is_of_machine action ≡ false → learn s action ≡ s
+abbrev pub is_fault : Action → Bool
+is_fault (Fault kind) = true
+is_fault _ = false
+
+-- all items of a tape are a machine's, or faults
+abbrev pub AreOfMachine : Tape → Type 0
+AreOfMachine [] = Unit {0}
+AreOfMachine (i ∷ tape) = IsTrue (is_of_machine i.action || is_fault i.action) × AreOfMachine tape
+
+-- From a tape on, as long as a machine alone adds to it, a world replies to the actions of the machine as a state does, which is this
+-- one at the tape.
+pub record Follows {S : Type 0} (w : World) (reply : S → Action → Reply) (learn : S → Action → S) (tape : Tape) (state : S) : Type 0 where
+  pub replies : (more : Tape) (i : Item) → AreOfMachine more → IsTrue (is_of_machine i.action)
+      → w (more ++ tape) i ≡ reply (state_after learn state more) i.action

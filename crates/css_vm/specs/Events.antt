@@ -1,8 +1,8 @@
 -- What a machine's run to the next event does, over a space and with units.
-use Rattle.std.specs.Prelude.{◌≡◌, ℕ, suc, ◌+◌, ◌<◌, ◌≤◌, ◌⊎◌, List, [], ◌∷◌, Some, slice_get}
+use Rattle.std.specs.Prelude.{◌≡◌, ℕ, suc, ◌+◌, ◌<◌, ◌⊎◌, List, [], ◌∷◌, ◌++◌, Some, slice_get}
 use Rattle.css_base.specs.declared.ending.Stop.{Stop}
-use Rattle.css_semantics.specs.Dialogue.{Action, Reply, Says, Out, Calls, Returns, Start, Finish, Barrier, Call, Tape, World, Outcome, Goes, Stops, Stopped, item, then_do, ask, output}
-use Rattle.css_semantics.specs.Worlds.{state_after, Follows}
+use Rattle.css_semantics.specs.Dialogue.{Action, Reply, Says, Out, Calls, Returns, Start, Finish, Barrier, Call, Tape, World, Outcome, Goes, Stops, Stopped, item, then_do, ask}
+use Rattle.css_semantics.specs.Worlds.{state_after, AreOfMachine, Follows}
 use Rattle.css_semantics.specs.Units.{with_units, metered, spending}
 use Rattle.css_semantics.specs.Tasks.{is_started}
 use Rattle.css_vm.specs.declared.code.MarkKind.{MarkKind}
@@ -39,12 +39,12 @@ IsStacked code place (At a callers at stack) =
 
 -- ---- what a run to an event does
 
--- In each world that replies to the actions of a machine as a space does, and from each tape that leaves the old space, there is
--- a later tape that leaves the new one and writes nothing more, and this holds of the world and the two tapes. (Units are a part
--- of the space here.)
+-- In each world that replies to the actions of a machine as a space does from a tape on, the machine adds to the tape by itself, and
+-- comes so from the old space to the new one; and this holds of the world, the tape and the longer tape. (Units are a part of the
+-- space here.)
 abbrev pub Along : {S : Type 0} → (S → Action → Reply) → (S → Action → S) → S → S → (World → Tape → Tape → Type 0) → Type 0
-Along {S} reply learn space space' Holds = (w : World) (start : S) (tape : Tape) → Follows w reply learn start → state_after learn start tape ≡ space →
-    (later : Tape) × (state_after learn start later ≡ space') × (output later ≡ output tape) × (is_started later ≡ is_started tape) × Holds w tape later
+Along reply learn space space' Holds = (w : World) (tape : Tape) → Follows w reply learn tape space →
+    (more : Tape) × AreOfMachine more × (state_after learn space more ≡ space') × Holds w tape (more ++ tape)
 
 -- the outcome is this stop in a line, and the tape is known
 abbrev pub StopsAt : {A : Type 0} → Stop → ℕ → Outcome A → Tape → Type 0
