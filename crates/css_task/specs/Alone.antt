@@ -1,6 +1,7 @@
 -- What a task's run by itself comes to.
 use Rattle.std.specs.Prelude.{◌≡◌, ℕ, List, map, All, Some, slice_get}
 use Rattle.css_base.specs.declared.direction.Direction.TheVariants.{InOut}
+use Rattle.css_base.specs.declared.ending.Stop.{Stop}
 use Rattle.css_base.specs.declared.limits.Limits.{Limits}
 use Rattle.css_semantics.specs.Dialogue.{Tape, Goes, Stops, Stopped}
 use Rattle.css_semantics.specs.Tasks.{Use}
@@ -28,17 +29,26 @@ IsPlainTask code r = (f : Routine) (s : Shape) → TaskOf code r f s → All IsP
 abbrev pub InputsOf : Code → TaskRecord → (inputs : List (List ℕ)) → Type 0
 InputsOf code r inputs = (f : Routine) (s : Shape) → TaskOf code r f s → InputsFit (uses s r) inputs
 
--- In the world of its windows, with these inputs, its stack place and so many units, the task's body comes to this end.
-abbrev pub EndsAs : Code → TaskRecord → Shape → (inputs : List (List ℕ)) → Limits → SharedEnd → Type 0
-EndsAs code r s inputs limits (ends.Outs outs) =
+-- how a task by itself ends: with what its windows have that it writes, in order of parameters, or with a stop in a line
+pub data End : Type 0 where
+  Outs : (outs : List (List ℕ)) → End
+  Halted : (stop : Stop) (line : ℕ) → End
+
+abbrev pub end_of : SharedEnd → End
+end_of (ends.Outs outs) = Outs outs.items
+end_of (ends.Stopped stop line) = Halted stop line
+
+-- In the world of its windows, with these inputs, its stack place and these limits, the task's body comes to this end.
+abbrev pub ComesTo : Code → TaskRecord → Shape → (inputs : List (List ℕ)) → Limits → End → Type 0
+ComesTo code r s inputs limits (Outs outs) =
     (n : ℕ) × (cell : ℕ) × (tape : Tape)
     × (alone (alone_world limits (uses s r) inputs r.stack_place) code r.function (arguments s r) r.line n ≡ Goes (Some cell) tape)
-    × (outs.items ≡ outs_after (uses s r) inputs r.stack_place tape)
-EndsAs code r s inputs limits (ends.Stopped stop line) =
+    × (outs ≡ outs_after (uses s r) inputs r.stack_place tape)
+ComesTo code r s inputs limits (Halted stop line) =
     (n : ℕ) × (tape : Tape)
     × (alone (alone_world limits (uses s r) inputs r.stack_place) code r.function (arguments s r) r.line n ≡ Stops (Stopped stop line) tape)
 
--- The task alone comes to this end: the limits matter by the task's units only.
-abbrev pub IsAlone : Code → TaskRecord → (inputs : List (List ℕ)) → (units : ℕ) → SharedEnd → Type 0
+-- The task alone comes to this end: of the limits only the task's units matter.
+abbrev pub IsAlone : Code → TaskRecord → (inputs : List (List ℕ)) → (units : ℕ) → End → Type 0
 IsAlone code r inputs units end =
-    (f : Routine) (s : Shape) (limits : Limits) → TaskOf code r f s → limits.task_units ≡ units → EndsAs code r s inputs limits end
+    (f : Routine) (s : Shape) (limits : Limits) → TaskOf code r f s → limits.task_units ≡ units → ComesTo code r s inputs limits end

@@ -3,7 +3,7 @@ ghost use Rattle.std.specs.Prelude.{List, IfOk, All};
 ghost use Rattle.css_vm.specs.Code.{code_of};
 ghost use Rattle.css_vm.specs.Soundness.{Spot, IsSound};
 ghost use Rattle.css_record.specs.Records.{FitsCode};
-ghost use Rattle.css_task.specs.Alone.{IsPlainTask, InputsOf, IsAlone};
+ghost use Rattle.css_task.specs.Alone.{IsPlainTask, InputsOf, IsAlone, end_of};
 
 use css_base::{Buffer, Line, NoMemory, Stop};
 use css_record::TaskRecord;
@@ -32,7 +32,7 @@ pub fn run_shared(
     requires fits { FitsCode (code_of code.now) task.now }
     requires plain { IsPlainTask (code_of code.now) task.now }
     requires inputs { InputsOf (code_of code.now) task.now inputs.now }
-    ensures { IfOk result (IsAlone (code_of code.now) task.now inputs.now units) }
+    ensures { IfOk result (λ end. IsAlone (code_of code.now) task.now inputs.now units (end_of end)) }
 {
     Err(NoMemory)
 }
