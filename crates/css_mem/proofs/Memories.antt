@@ -1,47 +1,136 @@
--- A memory's live bytes, as the code keeps them: what a list of bytes has from an index on.
-use Rattle.std.proofs.Common.{◌≡◌, ℕ, zero, suc, ◌+◌, ◌-◌, ◌/◌, ◌%◌, ◌≤◌, List, [], ◌∷◌, ◌++◌, length, take, drop, true, refl, ap, subst, sym, ◌∙◌, arith, if◌then◌else◌}
-use Rattle.std.proofs.lemmas.List.{drop_all, drop-append-le, drop-take, drop-drop, length-append, length-drop, length-take-le}
+-- A memory of a stack alone, as the code keeps it: its live bytes are what a list of bytes has from an index on.
+use Rattle.std.proofs.Common.{◌≡◌, ℕ, zero, suc, ◌+◌, ◌-◌, ◌/◌, ◌%◌, ◌≤◌, List, [], ◌∷◌, ◌++◌, length, take, drop, slice_index, true, false, ◌&&◌, nat_le, add-zero, zero-add, add_assoc, refl, ap, subst, sym, ◌∙◌, arith, if◌then◌else◌}
+use Rattle.std.proofs.Math.Seq.{drop-cons}
+use Rattle.std.proofs.lemmas.List.{drop_all, drop-drop, length-append, length-drop}
 use Rattle.std.proofs.lemmas.Bool.Decides.{nat_tests}
-use Rattle.css_semantics.specs.Dialogue.{Store}
-use Rattle.css_semantics.specs.Memory.{Memory, stack_place, is_live, big_endian_bytes, overwritten, after}
+use Rattle.css_semantics.specs.Dialogue.{Load, Store, Says}
+use Rattle.css_semantics.specs.Memory.{Memory, StackLimit, stack_place, is_between, is_live_byte, is_live, byte_at, bytes_at, big_endian, big_endian_bytes, overlaid, stored, after}
+use Rattle.css_semantics.specs.Flat.{reply_in}
+use Rattle.css_semantics.proofs.StackPlaces.{length-overlaid}
 
 pub length-big_endian_bytes : (count n : ℕ) → length (big_endian_bytes count n) ≡ count
 length-big_endian_bytes zero n = refl
 length-big_endian_bytes (suc count) n = omega (arith, length-append (big_endian_bytes count (n / 256)) (n % 256 ∷ []), length-big_endian_bytes count (n / 256))
 
-abbrev pub memory : ℕ → List ℕ → Memory
-memory end stack = record { end = end; stack = stack }
+abbrev pub memory : ℕ → List ℕ → ℕ → StackLimit → Memory
+memory end stack calls limit = record { globals = []; heap = []; stack = stack; end = end; calls = calls; limit = limit }
 
--- no bytes are live at first
-pub empty_memory : (size limit : ℕ) (bytes : List ℕ) → limit ≤ size → length bytes ≤ limit → memory (size - limit + limit) (drop limit bytes) ≡ memory size []
-empty_memory size limit bytes room short =
-    let end : size - limit + limit ≡ size = omega arith in
-    ap (λ e. memory e (drop limit bytes)) end ∙ ap (memory size) (drop_all limit bytes short)
+-- ---- live bytes
 
--- what is written behind the index is written in the live bytes
-drop-overwritten : (bytes : List ℕ) (start offset : ℕ) (new : List ℕ) → start + offset ≤ length bytes → drop start (overwritten bytes (start + offset) new) ≡ overwritten (drop start bytes) offset new
-drop-overwritten bytes start offset new within =
-    let front = take (start + offset) bytes in
-    let back = drop (start + offset + length new) bytes in
-    let long : length front ≡ start + offset = length-take-le (start + offset) bytes within in
-    let end : start + offset + length new ≡ start + (offset + length new) = omega arith in
-    drop-append-le start (front ++ new) back (omega (arith, length-append front new))
-    ∙ ap (λ xs. xs ++ back) (drop-append-le start front new (omega arith))
-    ∙ ap (λ xs. xs ++ new ++ back) (drop-take start offset bytes)
-    ∙ ap (λ xs. take offset (drop start bytes) ++ new ++ xs) (ap (λ n. drop n bytes) end ∙ sym (drop-drop (offset + length new) start bytes))
+no_byte_between : (from address : ℕ) → is_between from from address ≡ false
+no_byte_between from address = grind (arith, nat_tests)
 
--- a live address isn't behind the bytes
-live_within : (end start offset address : ℕ) (bytes new : List ℕ) → start ≤ length bytes → let m = memory end (drop start bytes) in is_live m address (length new) ≡ true → offset ≡ address - stack_place m → start + offset ≤ length bytes
-live_within end start offset address bytes new within live is =
-    let l = length-drop start bytes in
-    grind (arith, nat_tests)
+module _ (end : ℕ) (stack : List ℕ) (calls : ℕ) (limit : StackLimit) where
+  live_byte : (address : ℕ) → is_live_byte (memory end stack calls limit) address ≡ is_between (end - length stack) end address
+  live_byte address = rw (no_byte_between 4096 address)
 
--- a store into the bytes is one into the memory
-pub stored : (end start offset address : ℕ) (bytes written new : List ℕ) (m : Memory) → start ≤ length bytes → memory end (drop start bytes) ≡ m → is_live m address (length new) ≡ true → offset ≡ address - stack_place m → written ≡ overwritten bytes (start + offset) new → memory end (drop start written) ≡ after m (Store address new)
-stored end start offset address bytes written new m within view live is write =
-    let inside = live_within end start offset address bytes new within (subst (λ (m : Memory). is_live m address (length new) ≡ true) (sym view) live) (subst (λ (m : Memory). offset ≡ address - stack_place m) (sym view) is) in
-    ap (λ w. memory end (drop start w)) write
-    ∙ ap (memory end) (drop-overwritten bytes start offset new inside)
-    ∙ ap (λ (m : Memory). record m { stack = overwritten m.stack offset new }) view
-    ∙ ap (λ (o : ℕ). record m { stack = overwritten m.stack o new }) is
-    ∙ sym (ap (λ live. if live then record m { stack = overwritten m.stack (address - stack_place m) new } else m) live)
+  live_bytes : (address count : ℕ) → is_live (memory end stack calls limit) address (suc count) ≡ (nat_le (end - length stack) address && nat_le (address + suc count) end)
+  live_bytes address zero = rw (live_byte address) (grind (arith, nat_tests))
+  live_bytes address (suc count) = rw (live_byte address, live_bytes (address + 1) count) (grind (arith, nat_tests))
+
+  -- without globals and heap, bytes are live exactly from the stack place to the end
+  pub live_in_stack : (address count : ℕ) → 1 ≤ count → is_live (memory end stack calls limit) address count ≡ (nat_le (end - length stack) address && nat_le (address + count) end)
+  live_in_stack address zero some = absurd (omega arith)
+  live_in_stack address (suc count) some = live_bytes address count
+
+  stack_byte : (address : ℕ) → byte_at (memory end stack calls limit) address ≡ slice_index stack (address - (end - length stack))
+  stack_byte address = rw (no_byte_between 4096 address)
+
+  -- the bytes at a live address
+  pub bytes_in_stack : (address count offset : ℕ) → address ≡ (end - length stack) + offset → offset + count ≤ length stack → bytes_at (memory end stack calls limit) address count ≡ take count (drop offset stack)
+  bytes_in_stack address zero offset at within = refl
+  bytes_in_stack address (suc count) offset at within =
+      let here : address - (end - length stack) ≡ offset = omega arith in
+      let next : address + 1 ≡ (end - length stack) + suc offset = omega arith in
+      rw (stack_byte address, here, bytes_in_stack (address + 1) count (suc offset) next (omega arith), drop-cons stack offset 0 (omega arith))
+
+-- ---- what is stored
+
+-- addresses may be counted from elsewhere
+pub overlaid-shift : (base from : ℕ) (bytes : List ℕ) (address : ℕ) (new : List ℕ) → overlaid (base + from) bytes (base + address) new ≡ overlaid from bytes address new
+overlaid-shift base from [] address new = refl
+overlaid-shift base from (b ∷ bytes) address new =
+    let next : base + from + 1 ≡ base + (from + 1) = omega arith in
+    let offset : base + from - (base + address) ≡ from - address = omega arith in
+    let same : is_between (base + address) (base + address + length new) (base + from) ≡ is_between address (address + length new) from = grind (arith, nat_tests) in
+    rw (next, offset, same, overlaid-shift base (from + 1) bytes address new)
+
+-- what is stored in the bytes from an index on
+pub drop-overlaid : (count from : ℕ) (bytes : List ℕ) (address : ℕ) (new : List ℕ) → drop count (overlaid from bytes address new) ≡ overlaid (from + count) (drop count bytes) address new
+drop-overlaid zero from bytes address new = rw (add-zero from)
+drop-overlaid (suc count) from [] address new = refl
+drop-overlaid (suc count) from (b ∷ bytes) address new =
+    let on : from + 1 + count ≡ from + suc count = omega arith in
+    rw (drop-overlaid count (from + 1) bytes address new, on)
+
+-- nothing is stored before this byte and behind it
+overlaid_behind : (from : ℕ) (bytes : List ℕ) (address : ℕ) (new : List ℕ) → address + length new ≤ from → overlaid from bytes address new ≡ bytes
+overlaid_behind from [] address new behind = refl
+overlaid_behind from (b ∷ bytes) address new behind =
+    let out : is_between address (address + length new) from ≡ false = grind (arith, nat_tests) in
+    rw (out, overlaid_behind (from + 1) bytes address new (omega arith))
+
+overlaid_inside : (from : ℕ) (bytes : List ℕ) (address : ℕ) (new : List ℕ) (k left : ℕ) → from ≡ address + k → k + left ≡ length new → left ≤ length bytes → overlaid from bytes address new ≡ drop k new ++ drop left bytes
+overlaid_inside from bytes address new k zero at rest within =
+    rw (overlaid_behind from bytes address new (omega arith), drop_all k new (omega arith))
+overlaid_inside from [] address new k (suc left) at rest within = absurd (omega arith)
+overlaid_inside from (b ∷ bytes) address new k (suc left) at rest within =
+    let in_new : is_between address (address + length new) from ≡ true = grind (arith, nat_tests) in
+    let here : from - address ≡ k = omega arith in
+    let next : from + 1 ≡ address + suc k = omega arith in
+    rw (in_new, here, overlaid_inside (from + 1) bytes address new (suc k) left next (omega arith) (omega arith), drop-cons new k 0 (omega arith))
+
+-- a slice of the bytes is copied over
+pub spliced : (from : ℕ) (bytes : List ℕ) (offset : ℕ) (new : List ℕ) → offset + length new ≤ length bytes → overlaid from bytes (from + offset) new ≡ take offset bytes ++ (new ++ drop (offset + length new) bytes)
+spliced from bytes zero new within = rw (zero-add (length new)) (overlaid_inside from bytes (from + 0) new 0 (length new) (omega arith) (omega arith) (omega arith))
+spliced from [] (suc offset) new within = absurd (omega arith)
+spliced from (b ∷ bytes) (suc offset) new within =
+    let out : is_between (from + suc offset) (from + suc offset + length new) from ≡ false = grind (arith, nat_tests) in
+    let on : from + suc offset ≡ from + 1 + offset = omega arith in
+    let more : suc offset + length new ≡ suc (offset + length new) = omega arith in
+    rw (out, more) (rw on (rw (spliced (from + 1) bytes offset new (omega arith))))
+
+-- ---- the bytes that the code keeps, which are live from an index on
+
+abbrev pub kept : (origin start : ℕ) (bytes : List ℕ) (calls most : ℕ) → Memory
+kept origin start bytes calls most = memory (origin + length bytes) (drop start bytes) calls (record { bytes = length bytes; calls = most })
+
+module _ (origin start address : ℕ) (bytes : List ℕ) (calls most : ℕ) (m : Memory) (within : start ≤ length bytes) (view : kept origin start bytes calls most ≡ m) where
+  place : stack_place (kept origin start bytes calls most) ≡ origin + start
+  place = omega (arith, length-drop start bytes)
+
+  live_from : (count : ℕ) → 1 ≤ count → is_live m address count ≡ (nat_le (origin + start) address && nat_le (address + count) (origin + length bytes))
+  live_from count some =
+      let live = live_in_stack (origin + length bytes) (drop start bytes) calls (record { bytes = length bytes; calls = most }) address count some in
+      ap (λ (m : Memory). is_live m address count) (sym view) ∙ (rw place at live)
+
+  pub are_live : (count : ℕ) → 1 ≤ count → origin + start ≤ address → address + count ≤ origin + length bytes → is_live m address count ≡ true
+  are_live count some above below = rw (live_from count some) (grind (arith, nat_tests))
+
+  pub are_not_live : (count : ℕ) → 1 ≤ count → (origin + start ≤ address → address + count ≤ origin + length bytes → ⊥) → is_live m address count ≡ false
+  are_not_live count some outside = rw (live_from count some) (grind (arith, nat_tests))
+
+  -- what is loaded
+  pub loaded : (offset count value : ℕ) → is_live m address count ≡ true → stack_place m + offset ≡ address → offset + count ≤ length m.stack → value ≡ big_endian (take count (drop (start + offset) bytes)) → reply_in m (Load address count) ≡ Says value
+  loaded offset count value live at inside is =
+      let at' : origin + length bytes - length (drop start bytes) + offset ≡ address = ap (λ (m : Memory). stack_place m + offset) view ∙ at in
+      let inside' : offset + count ≤ length (drop start bytes) = subst (λ (m : Memory). offset + count ≤ length m.stack) (sym view) inside in
+      let loads = bytes_in_stack (origin + length bytes) (drop start bytes) calls (record { bytes = length bytes; calls = most }) address count offset (sym at') inside' in
+      let loads' : bytes_at m address count ≡ take count (drop offset (drop start bytes)) = ap (λ (m : Memory). bytes_at m address count) (sym view) ∙ loads in
+      rw (live, loads', drop-drop offset start bytes) (ap Says (sym is))
+
+  -- what is stored
+  pub stored_in : (offset : ℕ) (new written : List ℕ) → is_live m address (length new) ≡ true → stack_place m + offset ≡ address → written ≡ overlaid 0 bytes (start + offset) new → kept origin start written calls most ≡ after m (Store address new)
+  stored_in offset new written live at is =
+      let from : origin + start + offset ≡ address = ap (λ n. n + offset) (sym place) ∙ ap (λ (m : Memory). stack_place m + offset) view ∙ at in
+      let same_length : length written ≡ length bytes = ap length is ∙ length-overlaid 0 bytes (start + offset) new in
+      let stack : drop start written ≡ overlaid (stack_place (kept origin start bytes calls most)) (drop start bytes) address new =
+      ap (drop start) is ∙ drop-overlaid start 0 bytes (start + offset) new
+      ∙ ap (λ n. overlaid n (drop start bytes) (start + offset) new) (zero-add start)
+      ∙ sym (overlaid-shift origin start (drop start bytes) (start + offset) new)
+      ∙ ap (λ n. overlaid (origin + start) (drop start bytes) n new) (sym (add_assoc origin start offset) ∙ from)
+      ∙ ap (λ n. overlaid n (drop start bytes) address new) (sym place) in
+      ap (λ n. memory (origin + n) (drop start written) calls (record { bytes = n; calls = most })) same_length
+      ∙ ap (λ s. memory (origin + length bytes) s calls (record { bytes = length bytes; calls = most })) stack
+      ∙ ap (λ (m : Memory). stored m address new) view
+      ∙ sym (ap (λ live. if live then stored m address new else m) live)

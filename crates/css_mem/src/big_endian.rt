@@ -1,6 +1,6 @@
 //! Numbers as big-endian bytes.
 ghost use Rattle.std.specs.Prelude.{◌≡◌, ◌+◌, ◌≤◌, length};
-ghost use Rattle.css_semantics.specs.Memory.{big_endian, big_endian_bytes, overwritten};
+ghost use Rattle.css_semantics.specs.Memory.{big_endian, big_endian_bytes, overlaid};
 ghost use Rattle.css_vm.specs.Spaces.{bytes_of};
 
 use css_vm::Width;
@@ -37,7 +37,7 @@ pub(crate) fn number_of(width: Width, bytes: &[u8]) -> u64
 #[inline]
 pub(crate) fn write_number(bytes: &mut [u8], index: usize, width: Width, number: u64)
     requires { index + bytes_of width ≤ length bytes.old }
-    ensures { bytes.new ≡ overwritten bytes.old index (big_endian_bytes (bytes_of width) number) }
+    ensures { bytes.new ≡ overlaid 0 bytes.old index (big_endian_bytes (bytes_of width) number) }
 {
     match width {
         Width::W8 => overwrite(bytes, index, &[(number % 0x100) as u8]),
@@ -53,7 +53,7 @@ pub(crate) fn write_number(bytes: &mut [u8], index: usize, width: Width, number:
 
 fn overwrite(bytes: &mut [u8], index: usize, new: &[u8])
     requires { index + length new.now ≤ length bytes.old }
-    ensures { bytes.new ≡ overwritten bytes.old index new.now }
+    ensures { bytes.new ≡ overlaid 0 bytes.old index new.now }
 {
     bytes[index..index + new.len()].copy_from_slice(new);
 }

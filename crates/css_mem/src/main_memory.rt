@@ -1,56 +1,78 @@
 //! Main's flat memory. So far it has a stack alone.
-ghost use Rattle.std.specs.Prelude.{◌≡◌, ◌-◌, ◌≤◌, [], IfOk, true, false, MatchOption};
-ghost use Rattle.css_semantics.specs.Memory.{is_live, stack_place};
-ghost use Rattle.css_semantics.specs.Flat.{stack_limit};
+ghost use Rattle.std.specs.Prelude.{◌≡◌, ◌+◌, ◌≤◌, length, IfOk, IfSome, is_some, if◌then◌else◌};
+ghost use Rattle.css_semantics.specs.declared.TheConstants.{STACK_LIMIT};
+ghost use Rattle.css_semantics.specs.Memory.{first_global, is_live, stack_place};
+ghost use Rattle.css_semantics.specs.Flat.{erased_stack, no_frames};
+ghost use Rattle.css_semantics.specs.Rules.{main_stack};
 
 use crate::big_endian::{byte_count, number_of, write_number};
 use css_base::{FaultKind, NoMemory, Rule, Stop};
-use css_semantics::STACK_LIMIT;
+use css_semantics::{MAIN_OPEN_CALLS, MAIN_STACK_LIMIT, OPEN_CALLS, STACK_LIMIT};
 use css_vm::{Space, Width};
 use std::alloc::Global;
 use std::marker::Model;
 
-/// Main's memory. Contracts see its end and its live bytes.
+/// Main's memory. Contracts see its live bytes, its end, its open calls and its stack's limit.
 #[derive(Drop, Debug)]
 pub struct MainMemory {
-    // The bytes that the stack may have, and the address of the first of them. They end where the memory does.
+    // All bytes that the stack may have, and the address of the first of them. They end where the memory does.
     origin: u32,
     bytes: Vec<u8>,
     // The index from which on they are live.
     start: usize,
+    // How many calls are open, and how many may be.
+    calls: u32,
+    most_calls: u32,
 }
 
 impl Model for MainMemory {
-    ghost use Rattle.std.specs.Prelude.{◌≤◌, ◌<◌, ◌+◌, ◌^◌, ◌≡◌, length, drop};
+    ghost use Rattle.std.specs.Prelude.{◌≤◌, ◌<◌, ◌+◌, ◌^◌, [], length, drop};
     ghost use Rattle.css_semantics.specs.Memory.{Memory};
-    ghost use Rattle.css_semantics.specs.Flat.{stack_limit};
 
     ghost Value = { Memory };
 
-    ghost view = { λ m. record { end = m.origin + stack_limit; stack = drop m.start m.bytes.items } };
+    ghost view = { λ m. record {
+      globals = [];
+      heap = [];
+      stack = drop m.start m.bytes.items;
+      end = m.origin + length m.bytes.items;
+      calls = m.calls;
+      limit = record { bytes = length m.bytes.items; calls = m.most_calls };
+    } };
 
-    ghost invariant = { λ m. (length m.bytes.items ≡ stack_limit) × (m.start ≤ stack_limit) × (m.origin + stack_limit < 2 ^ 32) };
+    ghost invariant = { λ m. (m.start ≤ length m.bytes.items) × (m.origin + length m.bytes.items < 2 ^ 32) };
 }
 
 impl MainMemory {
-    /// A memory of so many bytes, at least 1,064,960, with an empty stack. Takes its memory here.
-    pub fn new(alloc: Global, size: u32) -> Result<MainMemory, NoMemory>
-        requires { stack_limit ≤ size }
-        ensures { IfOk result (λ m. m ≡ record { end = size; stack = [] }) }
+    /// A memory of so many bytes without globals, heap and frames. With `plain` the stack has the limits of a run where pragmas are
+    /// erased, else main's of the other runs; room for the first lies above 4,096 in either case. Takes its memory here.
+    pub fn new(alloc: Global, size: u32, plain: bool) -> Result<MainMemory, NoMemory>
+        requires { first_global + STACK_LIMIT ≤ size }
+        ensures { IfOk result (λ m. m ≡ record (no_frames size) { limit = if plain then erased_stack else main_stack }) }
     {
+        let (limit, most_calls) = if plain {
+            (STACK_LIMIT, OPEN_CALLS)
+        } else {
+            (MAIN_STACK_LIMIT, MAIN_OPEN_CALLS)
+        };
         Ok(MainMemory {
-            origin: size - STACK_LIMIT,
-            bytes: vec![in alloc; 0; STACK_LIMIT as usize]?,
-            start: STACK_LIMIT as usize,
+            origin: size - limit,
+            bytes: vec![in alloc; 0; limit as usize]?,
+            start: limit as usize,
+            calls: 0,
+            most_calls,
         })
     }
 
     // How far behind the stack's first byte an address is, if so many bytes from it on are live.
     fn live_offset(&self, address: u32, count: usize) -> Option<usize>
-        ensures { MatchOption result (is_live self.now address count ≡ false) (λ offset. (is_live self.now address count ≡ true) × (offset ≡ address - stack_place self.now)) }
+        requires { 1 ≤ count }
+        ensures live { is_live self.now address count ≡ is_some result }
+        ensures place { IfSome result (λ offset. stack_place self.now + offset ≡ address) }
+        ensures within { IfSome result (λ offset. offset + count ≤ length self.now.stack) }
     {
         let place = self.origin as usize + self.start;
-        let end = self.origin as usize + STACK_LIMIT as usize;
+        let end = self.origin as usize + self.bytes.len();
         let address = address as usize;
         if place <= address && count <= end && address <= end - count {
             Some(address - place)
@@ -61,12 +83,23 @@ impl MainMemory {
 }
 
 impl Space for MainMemory {
-    ghost use Rattle.css_semantics.specs.Memory.{after};
+    ghost use Rattle.css_semantics.specs.Memory.{after, stack_place};
     ghost use Rattle.css_semantics.specs.Flat.{reply_in};
+    ghost use Rattle.css_semantics.proofs.StackPlaces.{enters, lowers, leaves, loads, stores};
 
     ghost reply = { reply_in };
 
     ghost learn = { after };
+
+    ghost place = { stack_place };
+
+    ghost place_moves = { record {
+      enters = enters;
+      lowers = lowers;
+      leaves = leaves;
+      loads = loads;
+      stores = stores;
+    } };
 
     #[inline]
     fn load(&mut self, address: u32, width: Width) -> Result<u64, Stop> {
@@ -89,12 +122,23 @@ impl Space for MainMemory {
 
     fn push_frame(&mut self, size: u32) -> Result<u32, Stop> {
         let size = size as usize;
-        if size > self.start {
+        if size > self.start || self.calls >= self.most_calls {
             return Err(Stop::Rule(Rule::MainStack));
         }
         let start = self.start - size;
         self.bytes[start..self.start].fill(0);
         self.start = start;
+        self.calls += 1;
         Ok(self.origin + start as u32)
+    }
+
+    fn pop_frame(&mut self, size: u32) -> Result<(), Stop> {
+        let size = size as usize;
+        if self.calls == 0 || size > self.bytes.len() - self.start {
+            return Err(Stop::Fault(FaultKind::OutsideMemory));
+        }
+        self.start += size;
+        self.calls -= 1;
+        Ok(())
     }
 }

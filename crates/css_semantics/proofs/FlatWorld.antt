@@ -1,5 +1,5 @@
 -- The flat world replies as a memory with units does that starts empty.
-use Rattle.std.proofs.Common.{◌≡◌, ℕ, ◌++◌, ap}
+use Rattle.std.proofs.Common.{ℕ, ap}
 use Rattle.css_semantics.specs.Dialogue.{Tape}
 use Rattle.css_semantics.specs.Worlds.{state_after, Follows}
 use Rattle.css_semantics.specs.Memory.{after}

@@ -28,10 +28,11 @@ with_argument objects a =
 abbrev pub without_stored : List Object → (address width : ℕ) → List Object
 without_stored objects address width = filter (λ o. o.is_written || not (some_from (has_byte o.window) address width)) objects
 
+-- Only main's calls and main's stores count.
 abbrev pub pending_after : (is_main : Bool) → List Object → Action → List Object
-pending_after is_main objects (Calls call) = fold with_argument objects call.arguments
-pending_after is_main objects (Wait address) = filter (λ o. not (o.window.base == address)) objects
+pending_after true objects (Calls call) = fold with_argument objects call.arguments
 pending_after true objects (Store address bytes) = without_stored objects address (length bytes)
+pending_after is_main objects (Wait address) = filter (λ o. not (o.window.base == address)) objects
 pending_after is_main objects Barrier = []
 pending_after is_main objects Finish = []
 pending_after is_main objects (End result) = []

@@ -2,6 +2,7 @@
 use Rattle.std.specs.Prelude.{ℕ, zero, suc, ◌+◌, ◌-◌, ◌^◌, ℤ, pos, Bool, true, false, not, ◌&&◌, ◌||◌, List, [], ◌∷◌, length, filter, find, map, fold, nat_le, nat_lt, Option, Some, None, option_map}
 use Rattle.std.specs.List.{list_any, list_all}
 use Rattle.css_base.specs.declared.limits.Limits.{Limits}
+use Rattle.css_semantics.specs.declared.TheConstants.{MAIN_STACK_LIMIT, MAIN_OPEN_CALLS}
 use Rattle.css_base.specs.declared.direction.Direction.{Direction}
 use Rattle.css_base.specs.declared.rule.Rule.{Rule}
 use Rattle.css_base.specs.declared.rule.Rule.TheVariants as rules
@@ -26,7 +27,7 @@ share_byte a b = not (all_of_window (λ address. not (has_byte b address)) a)
 
 -- what main's stack may take, and a task's
 abbrev pub main_stack : StackLimit
-main_stack = record { bytes = 1048576; calls = 32768 }
+main_stack = record { bytes = MAIN_STACK_LIMIT; calls = MAIN_OPEN_CALLS }
 
 abbrev pub task_stack : StackLimit
 task_stack = record { bytes = 16384; calls = 1024 }

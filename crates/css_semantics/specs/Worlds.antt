@@ -1,5 +1,5 @@
 -- Worlds that keep a state, which is folded over the tape.
-use Rattle.std.specs.Prelude.{◌≡◌, List, [], ◌∷◌, ◌++◌, Bool, true, false, ◌||◌, IsTrue}
+use Rattle.std.specs.Prelude.{◌≡◌, [], ◌∷◌, ◌++◌, Bool, true, false, ◌||◌, IsTrue}
 use Rattle.css_semantics.specs.Dialogue.{Action, Enter, Turn, Leave, Load, Store, Fault, Item, Tape, Reply, World}
 
 -- the state after a tape, from a first one

@@ -2,8 +2,15 @@
 #![tactic(auto)]
 
 mod front;
+mod lexer;
+mod parser;
 mod tree;
 mod unspelled;
 
-pub use front::read_program;
+pub use front::{numbers_fit, one_program, read_program};
+pub use parser::parse_program;
 pub use tree::{Directive, Expression, Function, Program, Statement};
+pub use unspelled::Unspelled;
+
+#[cfg(test)]
+mod tests;

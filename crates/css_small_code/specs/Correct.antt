@@ -1,5 +1,5 @@
 -- That code has a program's dialogue.
-use Rattle.std.specs.Prelude.{◌≡◌, ◌≢◌, ◌≤◌, ℕ, ℤ, pos, List, [], ◌∷◌, Option, Some, None, slice_get}
+use Rattle.std.specs.Prelude.{◌≡◌, ◌≢◌, ◌≤◌, ℕ, ℤ, List, [], ◌∷◌, Option, Some, None, slice_get}
 use Rattle.css_base.specs.declared.ending.Stop.{Stop}
 use Rattle.css_semantics.specs.Dialogue.{World, Tape, Outcome, Goes, Stops, Stopped, Tired}
 use Rattle.css_vm.specs.Cells.{cell_of}

@@ -1,5 +1,5 @@
 -- What fuel does: it only ends what would go on.
-use Rattle.std.specs.Prelude.{◌≡◌, List, ◌++◌}
+use Rattle.std.specs.Prelude.{◌≡◌, ◌++◌}
 use Rattle.css_semantics.specs.Dialogue.{Outcome, Goes, Stops, Stopped, Tired, Tape, tape_of}
 
 -- What ends with less fuel ends so with more; what the fuel ends goes on behind the same tape.

@@ -4,3 +4,7 @@ pub mod Machine
 pub mod Soundness
 pub mod Spaces
 pub mod Events
+pub mod Stacks
+pub mod Effects
+pub mod States
+pub mod Steps

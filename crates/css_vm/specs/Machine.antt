@@ -77,6 +77,11 @@ abbrev pub on_task : Option Shape → Tape → (Shape → Outcome After) → Out
 on_task None tape go = stuck tape
 on_task (Some s) tape go = go s
 
+-- what a call gives: the cell with which the function returns, and 0 where it was a task's
+abbrev pub given_back : (is_task : Bool) → ℕ → ℕ
+given_back true cell = 0
+given_back false cell = cell
+
 -- stores a function's arguments at the front of its frame, each in 8 bytes
 abbrev pub stores : World → (address : ℕ) → (parameters arguments : List ℕ) → ℕ → Tape → Outcome ℕ
 stores w address (width ∷ parameters) (a ∷ arguments) line tape =
@@ -128,7 +133,7 @@ module _ (w : World) (code : Code) (a : Activation) (callers : List Caller) (lin
   returning [] f cell tape = ended (Finished cell a.base line) tape
   returning (c ∷ others) f cell tape =
       then_do (ask w (Leave a.base f.frame) line tape) (λ r t. then_do (task_returned a.is_task t) (λ r' t'.
-      Goes (On (At c.activation others c.place (cell ∷ c.stack))) t'))
+      Goes (On (At c.activation others c.place (given_back a.is_task cell ∷ c.stack))) t'))
 
   abbrev pub effect : Op → List ℕ → Tape → Outcome After
   effect (ops.Push v) stack tape = next (cell_of v ∷ stack) tape

@@ -1,4 +1,6 @@
 //! The machine's instructions. Cells are 64 bits.
+ghost use Rattle.std.specs.Prelude.{◌≡◌, ◌+◌, ◌^◌, ◌<◌, length, slice_get};
+ghost use Rattle.css_vm.specs.Code.{Routine, routine, code_of};
 
 use crate::space::Width;
 use css_base::{Direction, Line};
@@ -172,4 +174,27 @@ pub struct Code {
     pub functions: Vec<Function>,
     /// The number of main among the functions.
     pub main: u32,
+}
+
+impl Function {
+    // The instruction at a place of the body.
+    #[inline]
+    pub(crate) fn instr_at(&self, place: usize) -> &Instr
+        requires { place < length self.now.body.items }
+        ensures is { slice_get (routine self.now).body place ≡ Some result.now }
+        ensures counted { place + 1 < 2 ^ 64 }
+    {
+        &self.body[place]
+    }
+}
+
+impl Code {
+    // The function of a number.
+    #[inline]
+    pub(crate) fn function(&self, number: u32) -> &Function
+        requires { (f : Routine) × (slice_get (code_of self.now).functions number ≡ Some f) }
+        ensures { slice_get (code_of self.now).functions number ≡ Some (routine result.now) }
+    {
+        &self.functions[number as usize]
+    }
 }

@@ -1,11 +1,19 @@
 //! The stack machine: its instructions and its runs.
 #![tactic(auto)]
 
+mod activations;
 mod cells;
 mod code;
+mod entry;
 mod machine;
+mod operations;
 mod printed;
+mod rounds;
 mod space;
+mod stack;
+mod step;
+mod submission;
+mod units;
 
 pub use code::{
     ArgShape, Code, Conversion, Function, Instr, MarkKind, Narrow, Op, ShiftWidth, TaskShape,

@@ -6,8 +6,11 @@ ghost use Rattle.css_vm.specs.Soundness.{Fits};
 ghost use Rattle.css_semantics.specs.Units.{with_units, metered, spending};
 ghost use Rattle.css_vm.specs.Events.{Reaches, Leaves, IsStacked, IsInside, base_of};
 
+use crate::activations::Activations;
 use crate::code::{Code, MarkKind};
+use crate::entry::enter;
 use crate::printed::Printed;
+use crate::rounds::run;
 use crate::space::Space;
 use css_base::{Line, NoMemory, Stop};
 use std::alloc::Global;
@@ -44,17 +47,20 @@ pub enum Event {
 /// A machine. Contracts see its state.
 #[derive(Drop, Debug)]
 pub struct Machine {
+    begun: bool,
     function: u32,
     arguments: Vec<u64>,
     line: Line,
+    activations: Activations,
 }
 
 impl Model for Machine {
+    ghost use Rattle.std.specs.Prelude.{if◌then◌else◌};
     ghost use Rattle.css_vm.specs.Machine.{State, Begin};
 
     ghost Value = { State };
 
-    ghost view = { λ m. Begin m.function m.arguments.items m.line };
+    ghost view = { λ m. if m.begun then m.activations else Begin m.function m.arguments.items m.line };
 }
 
 impl Machine {
@@ -69,12 +75,13 @@ impl Machine {
         ensures { IfOk result (λ m. m ≡ Begin function arguments.now line) }
     {
         let _code = code;
-        let mut own = Vec::new(alloc);
-        own.extend_from_slice(arguments)?;
+        let arguments = Vec::from_slice(alloc, arguments)?;
         Ok(Machine {
+            begun: false,
             function,
-            arguments: own,
+            arguments,
             line,
+            activations: Activations::new(alloc, function, 0),
         })
     }
 
@@ -94,7 +101,17 @@ impl Machine {
             self.old (with_units space.old units.old) e self.new (with_units space.new units.new)) }
         ensures leaves { IfOk result (λ e. Leaves (code_of code.now) self.old units.old e self.new units.new (S.place space.new)) }
     {
-        Err(NoMemory)
+        if self.begun {
+            return run(&mut self.activations, alloc, code, space, units);
+        }
+        match enter(code.function(self.function), &self.arguments, space, units) {
+            Ok(base) => {
+                self.activations = Activations::new(alloc, self.function, base);
+                self.begun = true;
+                run(&mut self.activations, alloc, code, space, units)
+            }
+            Err(stop) => Ok(Event::Stopped(stop, self.line)),
+        }
     }
 
     /// The base of the innermost frame, once the function is entered.
@@ -102,7 +119,7 @@ impl Machine {
         requires { IsInside self.now }
         ensures { result ≡ base_of self.now }
     {
-        self.function
+        self.activations.base()
     }
 
     /// Resumes after an event that is owed an answer.
@@ -110,6 +127,6 @@ impl Machine {
         requires { IsOwed self.old }
         ensures { self.new ≡ answered value self.old }
     {
-        self.function = (value % 2) as u32;
+        self.activations.answer(value);
     }
 }

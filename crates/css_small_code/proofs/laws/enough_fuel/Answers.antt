@@ -1,0 +1,5 @@
+use Rattle.css_small_code.proofs.EnoughFuel.{never_tired}
+use Rattle.css_small_code.proofs.laws.enough_fuel.Goals as goal
+
+pub returns : goal.returns
+returns c memory units p tape numbers = never_tired memory units p numbers tape

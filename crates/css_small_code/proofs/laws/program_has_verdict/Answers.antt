@@ -1,0 +1,11 @@
+use Rattle.std.proofs.Common.{◌+◌}
+use Rattle.css_semantics.specs.Flat.{no_frames}
+use Rattle.css_semantics.specs.Verdict.{judged_in}
+use Rattle.css_small_code.specs.Meaning.{source}
+use Rattle.css_small_code.proofs.EnoughJudged.{judged_never_tired}
+use Rattle.css_small_code.proofs.Verdicts.{has_verdict}
+use Rattle.css_small_code.proofs.laws.program_has_verdict.Goals as goal
+
+pub returns : goal.returns
+returns c limits p numbers =
+    has_verdict (no_frames limits.memory) (source (judged_in limits) (limits.main_units + limits.task_units + 2) p) (judged_never_tired limits p numbers)
