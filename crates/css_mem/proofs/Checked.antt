@@ -1,5 +1,5 @@
 -- A test by which plans of some code are seen to be sound.
-use Rattle.std.proofs.Common.{◌≡◌, ℕ, zero, suc, ◌+◌, ◌-◌, ◌<◌, ◌≤◌, List, [], ◌∷◌, length, Option, Some, None, is_none, is_some, slice_get, Bool, true, false, not, ◌&&◌, ◌||◌, nat_eq, nat_le, nat_lt, IsTrue, All, Contains, refl, ap, sym, subst, ◌∙◌, arith, add-zero, zero-add}
+use Rattle.std.proofs.Common.{◌≡◌, ℕ, ℤ, zero, suc, ◌+◌, ◌-◌, ◌≤◌, List, [], ◌∷◌, length, Option, Some, None, is_none, is_some, Result, Ok, Err, IfOk, slice_get, Bool, true, false, not, ◌&&◌, ◌||◌, nat_eq, nat_le, nat_lt, IsTrue, All, refl, ap, sym, subst, ◌∙◌, arith, add-zero, zero-add}
 use Rattle.std.specs.List.{list_all}
 use Rattle.std.proofs.lemmas.Bool.{leb-true, ltb-true, eqb-true, eq-eqb, le-leb, lt-ltb, and_parts, and_from, not-true}
 use Rattle.std.proofs.lemmas.List.Elements.{All-nil, All-cons, All-contains}
@@ -8,8 +8,10 @@ use Rattle.css_vm.specs.declared.code.ArgShape.TheVariants as shapes
 use Rattle.css_vm.specs.declared.code.Instr.{Instr}
 use Rattle.css_vm.specs.declared.code.Op.{Op}
 use Rattle.css_vm.specs.declared.code.Op.TheVariants as ops
-use Rattle.css_vm.specs.Code.{Routine, Shape, Code}
-use Rattle.css_vm.specs.Machine.{Begin}
+use Rattle.css_vm.specs.declared.code as coded
+use Rattle.css_vm.specs.Code.{Routine, Shape, Code, code_of}
+use Rattle.css_vm.specs.Machine.{State, Begin, At, answered}
+use Rattle.css_vm.specs.Events.{IsStacked, Falls}
 use Rattle.css_vm.specs.Effects.{goes_on, no_functions}
 use Rattle.css_vm.specs.Soundness.{Spot, Stays, Leads, GoesOn, Names, IsFine, IsSoundBody, IsPart, AreParts, IsShapeOf, IsReached, Itself, Called, IsQuiet, IsSound, Fits, takes, gives, needs}
 
@@ -346,3 +348,50 @@ module _ (code : Code) where
       and_from (nat_le (needs code op) height) (names code op && goes code plan place (spot height (suc rank)) op) (needs_no_more op height all some)
       (and_from (names code op) (goes code plan place (spot height (suc rank)) op) (names_nothing op on)
       (goes_by_next plan place (spot height (suc rank)) op on next))
+
+-- ---- code that a function makes
+
+pub fits_alike : {E : Type 0} (r : Result coded.Code.Code E) (code : Code) → IfOk r (λ c. code_of c ≡ code) → Fits code (Begin 0 [] 1) → IfOk r (λ c. Fits (code_of c) (Begin 0 [] 1))
+fits_alike (Ok c) code is fits = subst (λ (code : Code). Fits code (Begin 0 [] 1)) (sym is) fits
+fits_alike (Err e) code is fits = tt
+
+-- main alone, with this frame
+abbrev pub alone : ℕ → List Instr → Code
+alone frame body = record { functions = record { frame = frame; parameters = []; task = None; body = body } ∷ []; main = 0 }
+
+-- main and another function
+abbrev pub pair : Routine → Routine → Code
+pair f g = record { functions = f ∷ g ∷ []; main = 0 }
+
+abbrev at_line : Op → ℕ → Instr
+at_line op line = record { op = op; line = line }
+
+-- an instruction that makes one number of two
+pub binary_fits : (a b : ℤ) (op : Op) → IsTrue (goes_on op) → takes no_functions op ≡ 2 → gives no_functions op ≡ 1
+    → Fits (alone 0 (at_line (ops.Push a) 2 ∷ at_line (ops.Push b) 2 ∷ at_line op 3 ∷ at_line ops.Ret 4 ∷ [])) (Begin 0 [] 1)
+binary_fits a b op on two one =
+    let code = alone 0 (at_line (ops.Push a) 2 ∷ at_line (ops.Push b) 2 ∷ at_line op 3 ∷ at_line ops.Ret 4 ∷ []) in
+    let plan : List Spot = spot 0 3 ∷ spot 1 2 ∷ spot 2 1 ∷ spot 1 0 ∷ [] in
+    fits_by code (plan ∷ []) 1 (rw (one_fine code plan 2 2 0 op refl on two (omega arith) one))
+
+-- and one that makes one of one
+pub unary_fits : (a : ℤ) (op : Op) → IsTrue (goes_on op) → takes no_functions op ≡ 1 → gives no_functions op ≡ 1
+    → Fits (alone 0 (at_line (ops.Push a) 2 ∷ at_line op 3 ∷ at_line ops.Ret 4 ∷ [])) (Begin 0 [] 1)
+unary_fits a op on takes_one gives_one =
+    let code = alone 0 (at_line (ops.Push a) 2 ∷ at_line op 3 ∷ at_line ops.Ret 4 ∷ []) in
+    let plan : List Spot = spot 0 2 ∷ spot 1 1 ∷ spot 1 0 ∷ [] in
+    fits_by code (plan ∷ []) 1 (rw (one_fine code plan 1 1 0 op refl on takes_one (omega arith) gives_one))
+
+-- ---- what a run leaves
+
+-- a machine that isn't owed an answer goes on
+pub left_fits : (code : Code) (old new : State) (units units' : ℕ) → Falls code old units new units' → Fits code old → Fits code new
+left_fits code old new units units' falls fits =
+    let next = falls fits.0 fits.2.0 fits.1 fits.2.1 in
+    (fits.0, fits.1, (next.0, next.1))
+
+-- an answer moves no frame
+pub answered_stacked : (code : Code) (place value : ℕ) (s : State) → IsStacked code place s → IsStacked code place (answered value s)
+answered_stacked code place value (Begin function arguments line) stacked = stacked
+answered_stacked code place value (At a callers at []) stacked = stacked
+answered_stacked code place value (At a callers at (x ∷ rest)) stacked = stacked

@@ -1,6 +1,6 @@
 -- The body of a function between its braces.
-use Rattle.std.proofs.Common.{◌≡◌, ℕ, ◌+◌, ◌<◌, ◌≤◌, List, [], ◌∷◌, length, codes, refl, sym, ap, ◌∙◌, subst, arith}
-use Rattle.css_base.specs.Tokens.{Kind, Punctuator, Lexeme}
+use Rattle.std.proofs.Common.{◌≡◌, ℕ, ◌+◌, List, ◌∷◌, length, codes, refl, sym, ap, ◌∙◌, subst}
+use Rattle.css_base.specs.Tokens.{Punctuator, Lexeme}
 use Rattle.css_small.specs.Tree.{Statements}
 use Rattle.css_small.specs.Spelling.{line_of}
 use Rattle.css_small.specs.Grammar.{Names, first_line}

@@ -1,9 +1,9 @@
 -- How an expression is read from left to right.
-use Rattle.std.proofs.Common.{◌≡◌, ℕ, ◌+◌, ◌<◌, ◌≤◌, max, List, [], ◌∷◌, ◌++◌, length, codes, Option, Some, None, refl, sym, ap, ◌∙◌, subst, arith}
-use Rattle.css_base.specs.Tokens.{Kind, Punctuator, Lexeme}
+use Rattle.std.proofs.Common.{◌≡◌, ℕ, ◌+◌, ◌<◌, ◌≤◌, List, [], ◌∷◌, ◌++◌, length, codes, Some, None, refl, sym, ap, ◌∙◌, subst, arith}
+use Rattle.css_base.specs.Tokens.{Punctuator, Lexeme}
 use Rattle.css_num.specs.declared.operators.UnOp.{UnOp}
 use Rattle.css_small.specs.declared.parser.operators.Operator.{Operator}
-use Rattle.css_small.specs.Tree.{Expression, Element, Unary, height}
+use Rattle.css_small.specs.Tree.{Expression, Unary, height}
 use Rattle.css_small.specs.Grammar.{Names, kind_at}
 use Rattle.css_small.specs.Operators.{joined, operator_level, operator_of, unary_of}
 use Rattle.css_small.specs.Fronts.{Next, Takes, marks}

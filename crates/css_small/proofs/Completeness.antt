@@ -1,18 +1,16 @@
 -- What is spelled is read.
-use Rattle.std.proofs.Common.{◌≡◌, ℕ, ◌+◌, ◌<◌, ◌≤◌, Bool, true, cond, nat_le, List, [], ◌∷◌, ◌++◌, length, map, codes, Option, Some, None, slice_get, refl, sym, ap, ◌∙◌, subst, arith, append_assoc, if◌then◌else◌}
+use Rattle.std.proofs.Common.{◌≡◌, ℕ, ◌+◌, ◌<◌, ◌≤◌, List, [], ◌∷◌, ◌++◌, codes, Some, None, refl, sym, ap, ◌∙◌, subst, arith, append_assoc, if◌then◌else◌}
 use Rattle.std.specs.Option.{option_map}
 use Rattle.std.proofs.lemmas.Bool.{le-leb}
 use Rattle.css_base.specs.declared.int_type.IntType.TheVariants as types
 use Rattle.css_base.specs.Tokens as tokens
 use Rattle.css_base.specs.Tokens.{Kind, Word, Punctuator, Lexeme}
-use Rattle.css_num.specs.declared.operators.UnOp.{UnOp}
 use Rattle.css_small.specs.declared.parser.operators.Operator.{Operator}
 use Rattle.css_small.specs.declared.parser.operators.Operator.TheVariants as operators
 use Rattle.css_small.specs.Tree as tree
 use Rattle.css_small.specs.Tree.{Expression, Unary}
-use Rattle.css_small.specs.Grammar.{Names, kind_at, kinds, unary_text, unary_level, level_of, IsVariable, IsParameter, SpellsExpression, Constant, Name, Index, Prefix, Infix, Conjunction, Disjunction, Parentheses}
+use Rattle.css_small.specs.Grammar.{Names, kind_at, kinds, unary_text, level_of, SpellsExpression, Constant, Name, Index, Prefix, Infix, Conjunction, Disjunction, Parentheses}
 use Rattle.css_small.specs.Operators.{joined, operator_text, operator_level, operator_of, unary_of}
-use Rattle.css_small.specs.Fronts.{Next}
 use Rattle.css_small.specs.Readings as readings
 use Rattle.css_small.specs.Readings.{leaf, Stops, ReadsOperand, Extends, ReadsExpression}
 use Rattle.css_small.proofs.Marks.{operator_found, unary_found, level_below, close_no_operator, bracket_no_operator}

@@ -1,9 +1,9 @@
 -- Directives as tokens with words.
-use Rattle.std.proofs.Common.{◌≡◌, ℕ, List, [], ◌∷◌, Some, Vec, Global, refl, sym, ap, ◌∙◌}
+use Rattle.std.proofs.Common.{◌≡◌, ℕ, List, [], ◌∷◌, Vec, Global, refl, ap, ◌∙◌}
 use mathlib.Core.Former.{Count}
 use Rattle.css_base.specs.declared.token.Token.{Token}
 use Rattle.css_base.specs.declared.token.TokenKind as code
-use Rattle.css_base.specs.Tokens.{Kind, Word, Directive, Lexeme, kind_of, lexemes_of, lexemes}
+use Rattle.css_base.specs.Tokens.{Word, Lexeme, kind_of, lexemes_of, lexemes}
 use Rattle.css_small.specs.declared.tree.Directive as tree
 use Rattle.css_small.specs.Tree.{Mark}
 use Rattle.css_small.specs.Spelling.{line_of}

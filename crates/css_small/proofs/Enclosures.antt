@@ -1,5 +1,5 @@
 -- Punctuators in a row, and expressions between them.
-use Rattle.std.proofs.Common.{◌≡◌, ℕ, ◌+◌, ◌<◌, ◌≤◌, List, [], ◌∷◌, ◌++◌, length, map, codes, Option, Some, None, refl, sym, ap, ◌∙◌, subst, arith, append_assoc}
+use Rattle.std.proofs.Common.{◌≡◌, ℕ, List, [], ◌∷◌, ◌++◌, codes, None, refl, sym, ap, ◌∙◌, subst, arith, append_assoc}
 use Rattle.std.proofs.lemmas.List.{map-append}
 use Rattle.css_base.specs.Tokens.{Kind, Punctuator, Lexeme}
 use Rattle.css_small.specs.Tree.{Expression}
@@ -11,8 +11,8 @@ use Rattle.css_small.specs.Readings.{Stops, ReadsExpression, ReadsEnclosed}
 use Rattle.css_small.proofs.Marks.{one_next, bracket_no_operator, semicolon_no_operator}
 use Rattle.css_small.proofs.Numbering.{AreDifferent}
 use Rattle.css_small.proofs.Readings.{one_expression}
-use Rattle.css_small.proofs.Completeness.{Cut, cut, Head, head_of, stops_at_mark, expression_is_read}
-use Rattle.css_small.proofs.Soundness.{Spelled, expression_is_spelled}
+use Rattle.css_small.proofs.Completeness.{cut, head_of, stops_at_mark, expression_is_read}
+use Rattle.css_small.proofs.Soundness.{expression_is_spelled}
 
 -- tokens of their own kinds are taken
 pub front_taken : (front rest : List Lexeme) → Takes (kinds front) (front ++ rest) rest

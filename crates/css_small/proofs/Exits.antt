@@ -1,5 +1,5 @@
 -- What is known at an error that is passed on, and behind a push.
-use Rattle.std.proofs.Common.{◌≡◌, Bool, true, false, not, Option, Some, None, IfSome, IfNone, is_some, Result, Ok, Err, IfOk, IsErrOf, IsErrAnd, is_ok, refl, sym, ap, ◌∙◌, if◌then◌else◌}
+use Rattle.std.proofs.Common.{◌≡◌, Bool, true, false, not, Option, Some, None, IfSome, IfNone, is_some, Result, Ok, Err, IfOk, IsErrOf, IsErrAnd, is_ok, sym, ap, ◌∙◌, if◌then◌else◌}
 use Rattle.css_small.specs.declared.unspelled.Unspelled.{Unspelled}
 use Rattle.css_small.specs.declared.unspelled.Unspelled.TheVariants.{NotSpelled, NoMemory}
 

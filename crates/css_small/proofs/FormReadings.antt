@@ -1,14 +1,14 @@
 -- Statements behind their first token.
-use Rattle.std.proofs.Common.{◌≡◌, ℕ, ◌+◌, ◌<◌, ◌≤◌, max, Bool, true, false, List, [], ◌∷◌, ◌++◌, length, codes, Option, Some, None, position, bytes_eq, refl, sym, ap, ◌∙◌, subst, arith}
+use Rattle.std.proofs.Common.{◌≡◌, ℕ, ◌<◌, ◌≤◌, max, true, false, List, [], ◌∷◌, length, codes, Some, None, refl, sym, ap, ◌∙◌, subst, arith}
 use Rattle.css_base.specs.Tokens.{Kind, Word, Punctuator, Lexeme}
 use Rattle.css_small.specs.declared.parser.statements.Form.{Form}
 use Rattle.css_small.specs.declared.parser.statements.Form.TheVariants as forms
 use Rattle.css_small.specs.declared.tree.Directive.{Directive}
-use Rattle.css_small.specs.Tree.{Expression, Statement, Declare, Initialise, Empty, Assign, AssignElement, Call, Mark, Put, Return, Block, If, IfElse, While, Statements, End, More, is_directive, height, height_of_statement, height_of_statements}
+use Rattle.css_small.specs.Tree.{Expression, Statement, Declare, Initialise, Empty, Assign, AssignElement, Call, Mark, Put, Return, Block, If, IfElse, While, Statements, End, More, is_directive, height, height_of_statement}
 use Rattle.css_small.specs.Spelling.{line_of}
 use Rattle.css_small.specs.Grammar.{Names, IsInMain, kind_at}
 use Rattle.css_small.specs.Fronts.{Next, Takes, marks}
-use Rattle.css_small.specs.Forms.{form, form_of, line_in}
+use Rattle.css_small.specs.Forms.{form, form_of}
 use Rattle.css_small.proofs.Marks.{one_next}
 use Rattle.css_small.proofs.Enclosures.{not_both}
 use Rattle.css_small.proofs.Heights.{next_shorter, takes_no_longer, expression_shorter}

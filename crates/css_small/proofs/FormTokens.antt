@@ -1,5 +1,5 @@
 -- What the first token of a statement is.
-use Rattle.std.proofs.Common.{◌≡◌, ℕ, ◌<◌, lit<, Bool, true, false, List, [], ◌∷◌, codes, Option, Some, None, Contains, bytes_eq, refl, sym, ap, ◌∙◌, subst, if◌then◌else◌}
+use Rattle.std.proofs.Common.{◌≡◌, ℕ, lit<, Bool, true, false, List, codes, Some, None, Contains, bytes_eq, refl, sym, ap, ◌∙◌, subst, if◌then◌else◌}
 use Rattle.std.proofs.lemmas.Bool.{false_from_ne_true}
 use Rattle.std.proofs.lemmas.Slice.Eq.{bytes_eq-Decides}
 use Rattle.css_base.specs.Tokens.{Kind, Word, Number, Punctuator, Character, Text, Directive, Lexemes}

@@ -1,8 +1,7 @@
 -- Functions, one behind another, and their declarators.
-use Rattle.std.proofs.Common.{◌≡◌, ℕ, ◌+◌, ◌<◌, ◌≤◌, max, Bool, true, false, List, [], ◌∷◌, ◌++◌, length, map, fold, All, codes, Option, Some, None, IfSome, refl, sym, ap, ◌∙◌, subst, arith, le_trans, append-nil}
-use Rattle.std.proofs.lemmas.List.{map-append}
+use Rattle.std.proofs.Common.{◌≡◌, ℕ, ◌<◌, ◌≤◌, max, Bool, true, false, List, [], ◌∷◌, ◌++◌, length, fold, All, codes, Option, Some, None, IfSome, refl, sym, ap, ◌∙◌, subst, arith, append-nil}
 use Rattle.std.proofs.lemmas.List.Elements.{All-cons, All-head, All-tail}
-use Rattle.css_base.specs.Tokens.{Kind, Word, Punctuator, Directive, Lexeme}
+use Rattle.css_base.specs.Tokens.{Kind, Word, Directive, Lexeme}
 use Rattle.css_small.specs.Tree.{Statements, End, More, Function, Program, height_of_function, height_of_program}
 use Rattle.css_small.specs.Grammar.{Names, kind_at, kinds, first_line, kinds_of_words}
 use Rattle.css_small.specs.Fronts.{Next, Takes, marks}
@@ -10,7 +9,7 @@ use Rattle.css_small.specs.Readings.{ReadsItems, ReadsBody, ReadsTask, ReadsMark
 use Rattle.css_small.proofs.Enclosures.{taken, taken_front}
 use Rattle.css_small.proofs.Heights.{next_shorter, takes_no_longer}
 use Rattle.css_small.proofs.Items.{item_shorter}
-use Rattle.css_small.proofs.Trees.{same_behind, same_word, directive_no_word, SameHeader, one_declarator, one_function, function_no_main}
+use Rattle.css_small.proofs.Trees.{same_behind, directive_no_word, one_function, function_no_main}
 
 -- ---- tokens taken in order
 

@@ -1,7 +1,6 @@
 -- How high what is read is, and how many tokens it takes.
-use Rattle.std.proofs.Common.{◌≡◌, ℕ, ◌+◌, ◌<◌, ◌≤◌, max, List, [], ◌∷◌, ◌++◌, length, codes, refl, sym, ap, ◌∙◌, subst, arith, le_trans}
+use Rattle.std.proofs.Common.{◌≡◌, ℕ, ◌+◌, ◌<◌, ◌≤◌, max, List, [], ◌∷◌, length, refl, ap, arith}
 use Rattle.css_base.specs.Tokens.{Kind, Lexeme}
-use Rattle.css_num.specs.declared.operators.UnOp.{UnOp}
 use Rattle.css_small.specs.declared.parser.operators.Operator.{Operator}
 use Rattle.css_small.specs.declared.parser.operators.Operator.TheVariants as operators
 use Rattle.css_small.specs.Grammar.{Names}

@@ -1,19 +1,16 @@
 -- Declarations and statements of main's body, one behind another.
-use Rattle.std.proofs.Common.{◌≡◌, ℕ, ◌+◌, ◌<◌, ◌≤◌, max, List, [], ◌∷◌, ◌++◌, length, codes, Option, Some, None, refl, sym, ap, ◌∙◌, subst, arith, le_trans, length-append}
-use Rattle.css_base.specs.Tokens.{Kind, Word, Punctuator, Lexeme}
-use Rattle.css_small.specs.declared.parser.statements.Form.{Form}
+use Rattle.std.proofs.Common.{◌≡◌, ℕ, ◌+◌, ◌<◌, ◌≤◌, List, [], ◌∷◌, length, codes, Some, refl, sym, ap, ◌∙◌, subst, arith, le_trans, length-append}
+use Rattle.css_base.specs.Tokens.{Kind, Word, Lexeme}
 use Rattle.css_small.specs.declared.parser.statements.Form.TheVariants as forms
 use Rattle.css_small.specs.Tree.{Expression, Statement, Declare, Initialise, Empty, Assign, AssignElement, Call, Mark, Put, Return, Block, If, IfElse, While, Statements, End, More, height, height_of_statement, height_of_statements}
 use Rattle.css_small.specs.Spelling.{line_of}
 use Rattle.css_small.specs.Grammar.{Names, with_object, kind_at, IsFresh}
 use Rattle.css_small.specs.Fronts.{Next, Takes, marks}
-use Rattle.css_small.specs.Forms.{form, form_of, line_in}
-use Rattle.css_small.specs.Readings.{Begins, ReadsEnclosed, ReadsRest, ReadsStatement, ReadsName, ReadsItemRest, ReadsItem, ReadsItems, ReadsDeclaration, AreClosed}
+use Rattle.css_small.specs.Forms.{form, form_of}
+use Rattle.css_small.specs.Readings.{ReadsEnclosed, ReadsRest, ReadsStatement, ReadsName, ReadsItemRest, ReadsItem, ReadsItems, ReadsDeclaration, AreClosed}
 use Rattle.css_small.proofs.Heights.{next_shorter, takes_no_longer}
-use Rattle.css_small.proofs.Enclosures.{not_both}
 use Rattle.css_small.proofs.Trees.{same_word, no_start, one_item}
 use Rattle.css_small.proofs.FormReadings.{begins_shorter, rest_no_longer, enclosed_no_longer}
-use Rattle.css_small.proofs.Marks.{one_next}
 use Rattle.css_small.proofs.Rows.{with_last}
 
 -- ---- declarations

@@ -1,7 +1,7 @@
 -- Punctuators that are taken one by one.
-use Rattle.std.proofs.Common.{◌≡◌, ℕ, ◌+◌, ◌<◌, ◌≤◌, List, [], ◌∷◌, ◌++◌, length, drop, get_or, refl, sym, ap, ◌∙◌, subst, arith}
+use Rattle.std.proofs.Common.{◌≡◌, ℕ, ◌+◌, ◌<◌, ◌≤◌, List, [], ◌∷◌, length, drop, get_or, refl, sym, subst}
 use Rattle.std.proofs.lemmas.List.{drop_more, drop_all}
-use Rattle.css_base.specs.Tokens.{Kind, Punctuator, Lexeme}
+use Rattle.css_base.specs.Tokens.{Punctuator, Lexeme}
 use Rattle.css_small.specs.Fronts.{Next, Takes, marks}
 use Rattle.css_small.proofs.Marks.{one_next}
 

@@ -1,5 +1,5 @@
 -- What tokens are: operators, leaves of expressions, marks.
-use Rattle.std.proofs.Common.{◌≡◌, ℕ, ◌<◌, lit<, Bool, true, false, cond, List, [], ◌∷◌, ◌++◌, codes, Option, Some, None, find, bytes_eq, refl, sym, ap, ◌∙◌, subst}
+use Rattle.std.proofs.Common.{◌≡◌, ℕ, ◌<◌, lit<, Bool, true, false, cond, List, [], ◌∷◌, codes, Some, None, find, bytes_eq, refl, sym, ap, subst}
 use Rattle.std.specs.Option.{option_map}
 use Rattle.std.proofs.lemmas.Slice.Eq.{bytes_eq-Decides}
 use Rattle.css_base.specs.Tokens.{Kind, Word, Number, Punctuator, Character, Text, Directive, Lexeme}
@@ -9,7 +9,7 @@ use Rattle.css_num.specs.declared.operators.BinOp.TheVariants as binary
 use Rattle.css_small.specs.declared.parser.operators.Operator.{Operator}
 use Rattle.css_small.specs.declared.parser.operators.Operator.TheVariants as operators
 use Rattle.css_small.specs.Tree.{Expression, Variable}
-use Rattle.css_small.specs.Grammar.{Names, IsParameter, kind_at, unary_text}
+use Rattle.css_small.specs.Grammar.{Names, IsParameter, unary_text}
 use Rattle.css_small.specs.Operators.{operator_text, operators as all_operators, operator_level, operator_spelled, operator_of, unary_operators, unary_spelled, unary_of}
 use Rattle.css_small.specs.Fronts.{Next}
 use Rattle.css_small.specs.Readings.{leaf}

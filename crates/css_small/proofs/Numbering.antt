@@ -1,5 +1,5 @@
 -- Names and their numbers.
-use Rattle.std.proofs.Common.{◌≡◌, ◌⊎◌, ℕ, suc, ◌+◌, ◌<◌, ◌≤◌, Bool, true, false, cond, nat_lt, nat_le, List, [], ◌∷◌, ◌++◌, length, codes, get_or, slice_get, position, Option, Some, None, Contains, bytes_eq, refl, sym, ap, ◌∙◌, subst, arith, zero-lt-suc, if◌then◌else◌}
+use Rattle.std.proofs.Common.{◌≡◌, ℕ, suc, ◌<◌, Bool, true, false, cond, nat_lt, nat_le, List, [], ◌∷◌, ◌++◌, length, codes, get_or, slice_get, position, Option, Some, None, Contains, bytes_eq, refl, sym, ap, ◌∙◌, subst, arith, zero-lt-suc, if◌then◌else◌}
 use Rattle.std.specs.List.{All, AllPairs, position_or_len}
 use Rattle.std.proofs.lemmas.Bool.{false_from_ne_true, lt-ltb, le-leb, leb-true}
 use Rattle.std.proofs.lemmas.Option.{slice_get_within, get_or_from_slice_get, slice_get-get_or}

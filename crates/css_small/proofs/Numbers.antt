@@ -3,10 +3,9 @@ use Rattle.std.proofs.Common.{◌≡◌, ℕ, ◌+◌, ◌^◌, ◌<◌, ◌≤�
 use Rattle.std.proofs.lemmas.List.{length-map}
 use Rattle.std.proofs.lemmas.List.Elements.{All-cons, All-head, All-tail}
 use Rattle.std.proofs.lemmas.Option.{slice_get_within}
-use Rattle.css_base.specs.Tokens.{Kind, Word, Punctuator, Lexeme}
-use Rattle.css_small.specs.Tree as tree
+use Rattle.css_base.specs.Tokens.{Kind, Lexeme}
 use Rattle.css_small.specs.Tree.{Expression, Statement, Declare, Initialise, Empty, Assign, AssignElement, Call, Mark, Put, Return, Block, If, IfElse, While, Statements, End, More, Function, Program}
-use Rattle.css_small.specs.Grammar.{Names, kind_at, kinds, with_object, SpellsExpression, Constant, Name, Index, Prefix, Infix, Conjunction, Disjunction, Parentheses, SpellsStatement, SpellsStatements, SpellsItem, SpellsItems, SpellsBody, SpellsFunction, SpellsFunctions, SpellsMain, IsProgram}
+use Rattle.css_small.specs.Grammar.{Names, kind_at, with_object, SpellsExpression, Constant, Name, Index, Prefix, Infix, Conjunction, Disjunction, Parentheses, SpellsStatement, SpellsStatements, SpellsItem, SpellsItems, SpellsBody, SpellsFunction, SpellsFunctions, SpellsMain, IsProgram}
 use Rattle.css_small.specs.Numbers.{Scope, IsVariable, IsWithin, AreWithin, AllWithin, IsNumbered, HasNumbers}
 
 -- what may be named at a place is the function's own

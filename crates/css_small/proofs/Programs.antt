@@ -1,17 +1,17 @@
 -- Programs are read as they are spelled.
-use Rattle.std.proofs.Common.{◌≡◌, ℕ, ◌+◌, Bool, true, false, List, [], ◌∷◌, ◌++◌, length, map, codes, Option, Some, None, refl, sym, ap, ◌∙◌, subst, append_assoc, append-nil}
+use Rattle.std.proofs.Common.{◌≡◌, ℕ, Bool, true, false, List, [], ◌∷◌, ◌++◌, codes, Some, refl, sym, ap, ◌∙◌, subst, append_assoc, append-nil}
 use Rattle.css_base.specs.Tokens.{Kind, Word, Punctuator, Lexeme}
 use Rattle.css_small.specs.declared.parser.statements.Form.TheVariants as forms
-use Rattle.css_small.specs.Tree.{Expression, Statement, Declare, Initialise, Empty, Assign, AssignElement, Call, Mark, Put, Return, Block, If, IfElse, While, Statements, End, More, Function, Program, takes_else}
+use Rattle.css_small.specs.Tree.{Statement, Declare, Initialise, Empty, Assign, AssignElement, Call, Mark, Put, Return, Block, If, IfElse, While, Statements, End, More, Function, Program, takes_else}
 use Rattle.css_small.specs.Spelling.{line_of}
-use Rattle.css_small.specs.Grammar.{Names, kind_at, kinds, first_line, semicolon, with_object, IsFresh, Declares, Encloses, SpellsStatement, SpellsItem, SpellsItems, SpellsBody, SpellsTask, SpellsFunction, SpellsFunctions, SpellsMain, SpellsProgram}
-use Rattle.css_small.specs.Fronts.{Next, Takes, marks}
-use Rattle.css_small.specs.Forms.{form, form_of, line_in}
-use Rattle.css_small.specs.Readings.{Begins, IsNoElse, ReadsEnclosed, ReadsRest, ReadsName, ReadsItemRest, ReadsItem, ReadsItems, ReadsBody, ReadsTask, ReadsMarked, parameter_list, declarator, ReadsHeader, in_function, in_main, ReadsFunction, ReadsFunctions, main_declarator, ReadsMain, ReadsProgram}
+use Rattle.css_small.specs.Grammar.{Names, kinds, first_line, semicolon, Encloses, SpellsStatement, SpellsItem, SpellsItems, SpellsBody, SpellsTask, SpellsFunction, SpellsFunctions, SpellsMain, SpellsProgram}
+use Rattle.css_small.specs.Fronts.{Takes, marks}
+use Rattle.css_small.specs.Forms.{form, form_of}
+use Rattle.css_small.specs.Readings.{Begins, IsNoElse, ReadsEnclosed, ReadsRest, ReadsItemRest, ReadsItem, ReadsItems, ReadsBody, ReadsMarked, parameter_list, declarator, in_function, in_main, ReadsFunction, ReadsFunctions, main_declarator, ReadsMain, ReadsProgram}
 use Rattle.css_small.proofs.Marks.{semicolon_no_operator}
 use Rattle.css_small.proofs.Numbering.{AreDeclared, none_declared, more_declared, AreKnown, more_known, fresh_before}
-use Rattle.css_small.proofs.Completeness.{Head, head_of, none_of}
-use Rattle.css_small.proofs.Enclosures.{taken, Taken, taken_front, Opened, enclosed_reads, Enclosed, enclosed_spelled}
+use Rattle.css_small.proofs.Completeness.{head_of}
+use Rattle.css_small.proofs.Enclosures.{taken, taken_front, enclosed_reads, enclosed_spelled}
 use Rattle.css_small.proofs.FormTokens.{form_of_int, form_of_else, form_token}
 use Rattle.css_small.proofs.Statements.{brace_no_else, else_begins_none, token_no_else, statement_reads, statement_spelled, begun, closed}
 use Rattle.css_small.proofs.Items.{statement_rest}
@@ -121,9 +121,6 @@ body_reads names all ss variables end ts rest s =
       closes = (rest, record { token = s.closes; parts = refl; is = s.closes_is.0 }, refl);
       line_is = s.closes_is.1;
     }
-
-none_known : AreKnown (in_main [])
-none_known = record { objects = none_declared; functions = none_declared }
 
 marked_reads : (is_task : Bool) (parameter : List ℕ) (ts rest : List Lexeme) → SpellsTask is_task ts parameter → ReadsMarked is_task (ts ++ rest) parameter rest
 marked_reads false parameter ts rest s = ap (λ l. l ++ rest) s

@@ -1,9 +1,9 @@
 -- The front of some tokens is read as one expression at most.
-use Rattle.std.proofs.Common.{◌≡◌, ℕ, ◌+◌, ◌<◌, ◌≤◌, List, [], ◌∷◌, ◌++◌, length, codes, Option, Some, None, refl, sym, ap, ◌∙◌, subst, arith}
-use Rattle.css_base.specs.Tokens.{Kind, Word, Punctuator, Lexeme}
+use Rattle.std.proofs.Common.{◌≡◌, ℕ, ◌+◌, ◌<◌, ◌≤◌, List, ◌∷◌, codes, Some, refl, sym, ap, ◌∙◌, subst, arith}
+use Rattle.css_base.specs.Tokens.{Word, Punctuator, Lexeme}
 use Rattle.css_num.specs.declared.operators.UnOp.{UnOp}
 use Rattle.css_small.specs.declared.parser.operators.Operator.{Operator}
-use Rattle.css_small.specs.Tree.{Expression, Element, Unary}
+use Rattle.css_small.specs.Tree.{Expression, Element}
 use Rattle.css_small.specs.Grammar.{Names, kind_at}
 use Rattle.css_small.specs.Operators.{joined, operator_level, operator_of, unary_of}
 use Rattle.css_small.specs.Fronts.{Next}

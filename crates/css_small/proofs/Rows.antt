@@ -1,6 +1,6 @@
 -- Statements one behind another, as the parser gathers them.
-use Rattle.std.proofs.Common.{◌≡◌, ℕ, ◌+◌, ◌<◌, ◌≤◌, max, List, [], ◌∷◌, ◌++◌, length, codes, refl, sym, ap, ◌∙◌, subst, arith}
-use Rattle.css_base.specs.Tokens.{Kind, Lexeme}
+use Rattle.std.proofs.Common.{◌≡◌, ℕ, ◌≤◌, max, List, [], ◌∷◌, ◌++◌, codes, refl, sym, ap, ◌∙◌, subst, arith}
+use Rattle.css_base.specs.Tokens.{Lexeme}
 use mathlib.Core.Former.{Count}
 use Rattle.std.proofs.Common.{Vec, Global}
 use Rattle.css_small.specs.declared.tree.Statement as coded

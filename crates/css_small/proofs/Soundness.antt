@@ -1,19 +1,17 @@
 -- What is read is spelled.
-use Rattle.std.proofs.Common.{◌≡◌, ℕ, ◌+◌, ◌<◌, ◌≤◌, Bool, true, false, cond, nat_le, List, [], ◌∷◌, ◌++◌, length, map, codes, Option, Some, None, position, bytes_eq, refl, sym, ap, ◌∙◌, subst, arith, append_assoc, append-nil, if◌then◌else◌}
+use Rattle.std.proofs.Common.{◌≡◌, ℕ, ◌+◌, ◌<◌, ◌≤◌, Bool, true, false, nat_le, List, [], ◌∷◌, ◌++◌, codes, Option, Some, None, refl, sym, ap, ◌∙◌, subst, arith, append_assoc, append-nil, if◌then◌else◌}
 use Rattle.std.specs.Option.{option_map}
 use Rattle.std.proofs.lemmas.Bool.{leb-true}
 use Rattle.std.proofs.lemmas.List.{map-append}
 use Rattle.css_base.specs.declared.int_type.IntType.TheVariants as types
 use Rattle.css_base.specs.Tokens as tokens
 use Rattle.css_base.specs.Tokens.{Kind, Word, Punctuator, Lexeme}
-use Rattle.css_num.specs.declared.operators.UnOp.{UnOp}
 use Rattle.css_small.specs.declared.parser.operators.Operator.{Operator}
 use Rattle.css_small.specs.declared.parser.operators.Operator.TheVariants as operators
 use Rattle.css_small.specs.Tree as tree
 use Rattle.css_small.specs.Tree.{Expression, Unary}
-use Rattle.css_small.specs.Grammar.{Names, kind_at, kinds, unary_text, level_of, IsVariable, IsParameter, SpellsExpression, Constant, Name, Index, Prefix, Infix, Conjunction, Disjunction, Parentheses}
-use Rattle.css_small.specs.Operators.{joined, operator_text, operator_level, operator_of, unary_of}
-use Rattle.css_small.specs.Fronts.{Next}
+use Rattle.css_small.specs.Grammar.{Names, kind_at, kinds, SpellsExpression, Constant, Name, Index, Prefix, Infix, Conjunction, Disjunction, Parentheses}
+use Rattle.css_small.specs.Operators.{joined, operator_text, operator_level, operator_of}
 use Rattle.css_small.specs.Readings as readings
 use Rattle.css_small.specs.Readings.{leaf, variable_of, Stops, ReadsPrimary, ReadsOperand, Extends, ReadsExpression}
 use Rattle.css_small.proofs.Marks.{operator_token, unary_token, level_below}

@@ -1,21 +1,18 @@
 -- Statements are read as they are spelled.
-use Rattle.std.proofs.Common.{◌≡◌, ℕ, ◌+◌, ◌<◌, ◌≤◌, lit<, Bool, true, false, List, [], ◌∷◌, ◌++◌, length, map, codes, Option, Some, None, slice_get, position, Contains, bytes_eq, refl, sym, ap, ◌∙◌, subst, arith, append_assoc, if◌then◌else◌}
-use Rattle.std.proofs.lemmas.Bool.{false_from_ne_true}
-use Rattle.std.proofs.lemmas.List.{map-append}
-use Rattle.std.proofs.lemmas.Slice.Eq.{bytes_eq-Decides}
-use Rattle.css_base.specs.Tokens.{Kind, Word, Punctuator, Directive, Lexeme, Lexemes}
+use Rattle.std.proofs.Common.{◌≡◌, ℕ, lit<, true, false, List, [], ◌∷◌, ◌++◌, codes, Some, Contains, refl, sym, ap, ◌∙◌, subst, append_assoc}
+use Rattle.css_base.specs.Tokens.{Kind, Word, Punctuator, Directive, Lexeme}
 use Rattle.css_small.specs.declared.parser.statements.Form.TheVariants as forms
-use Rattle.css_small.specs.Tree.{Expression, Statement, Declare, Initialise, Empty, Assign, AssignElement, Call, Mark, Put, Return, Block, If, IfElse, While, Statements, End, More, takes_else, is_directive}
+use Rattle.css_small.specs.Tree.{Expression, Statement, Declare, Initialise, Empty, Assign, AssignElement, Call, Mark, Put, Return, Block, If, IfElse, While, Statements, End, More, takes_else}
 use Rattle.css_small.specs.Spelling.{line_of}
-use Rattle.css_small.specs.Grammar.{Names, IsVariable, IsParameter, kind_at, kinds, first_line, reserved, semicolon, Encloses, EnclosesTwo, SpellsHeader, SpellsStatement, SpellsStatements}
+use Rattle.css_small.specs.Grammar.{Names, kind_at, kinds, first_line, reserved, semicolon, Encloses, EnclosesTwo, SpellsHeader, SpellsStatement, SpellsStatements}
 use Rattle.css_small.specs.Fronts.{Next, Takes, marks}
-use Rattle.css_small.specs.Forms.{form, form_of, form_of_word, form_of_punctuator, line_in}
+use Rattle.css_small.specs.Forms.{form, form_of, line_in}
 use Rattle.css_small.specs.Readings.{Begins, IsNoElse, ReadsEnclosed, ReadsArgument, ReadsRest, ReadsStatements}
 use Rattle.css_small.proofs.Marks.{close_no_operator, semicolon_no_operator}
 use Rattle.css_small.proofs.FormTokens.{free_form, form_of_semicolon, form_of_brace, form_of_putchar, form_of_return, form_of_if, form_of_while, form_of_else, form_token}
 use Rattle.css_small.proofs.Numbering.{AreKnown, variable_numbered, variable_named, called, function_named, variable_free, parameter_free, function_free}
-use Rattle.css_small.proofs.Completeness.{Cut, cut, Head, head_of, none_of}
-use Rattle.css_small.proofs.Enclosures.{front_taken, taken, Taken, taken_front, Opened, enclosed_reads, Enclosed, enclosed_spelled, bracket, closing_bracket, equality, two_reads, two_spelled}
+use Rattle.css_small.proofs.Completeness.{head_of, none_of}
+use Rattle.css_small.proofs.Enclosures.{taken, taken_front, Opened, enclosed_reads, Enclosed, enclosed_spelled, bracket, closing_bracket, equality, two_reads, two_spelled}
 
 -- ---- where an `else` stands
 

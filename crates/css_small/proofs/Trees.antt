@@ -1,7 +1,6 @@
 -- Tokens are read as one tree at most.
-use Rattle.std.proofs.Common.{◌≡◌, ℕ, ◌+◌, Bool, true, false, List, [], ◌∷◌, ◌++◌, length, get_or, codes, Option, Some, None, position, bytes_eq, refl, sym, ap, ◌∙◌, subst, arith}
+use Rattle.std.proofs.Common.{◌≡◌, ℕ, Bool, true, false, List, [], ◌∷◌, ◌++◌, length, get_or, codes, Some, None, position, bytes_eq, refl, sym, ap, ◌∙◌, subst, arith}
 use Rattle.css_base.specs.Tokens.{Kind, Word, Punctuator, Directive, Lexeme, Lexemes}
-use Rattle.css_small.specs.declared.parser.statements.Form.TheVariants as forms
 use Rattle.css_small.specs.declared.tree.Directive as tree
 use Rattle.css_small.specs.declared.tree.Directive.TheVariants as directives
 use Rattle.css_small.specs.Tree.{Expression, Statement, Declare, Initialise, Empty, Assign, AssignElement, Call, Mark, Put, Return, Block, If, IfElse, While, Statements, End, More, Function, Program}
@@ -9,7 +8,7 @@ use Rattle.css_small.specs.Spelling.{line_of}
 use Rattle.css_small.specs.Grammar.{Names, with_object, word_of, kinds_of_words, kind_at, first_line}
 use Rattle.css_small.specs.Fronts.{Next, Takes, marks}
 use Rattle.css_small.specs.Forms.{form, form_of, line_in}
-use Rattle.css_small.specs.Readings.{variable_of, Begins, ReadsEnclosed, ReadsCondition, ReadsArgument, ReadsRest, ReadsGuarded, ReadsInner, ReadsStatement, ReadsStatements, ReadsName, ReadsItemRest, ReadsItem, ReadsItems, ReadsBody, ReadsTask, ReadsMarked, parameter_list, declarator, ReadsHeader, in_function, in_main, ReadsFunction, ReadsFunctions, main_declarator, ReadsMain, IsMainNext, ReadsProgram}
+use Rattle.css_small.specs.Readings.{variable_of, Begins, ReadsEnclosed, ReadsCondition, ReadsArgument, ReadsRest, ReadsGuarded, ReadsStatement, ReadsStatements, ReadsName, ReadsItemRest, ReadsItem, ReadsItems, ReadsBody, ReadsMarked, parameter_list, declarator, ReadsHeader, in_function, in_main, ReadsFunction, ReadsFunctions, main_declarator, ReadsMain, IsMainNext, ReadsProgram}
 use Rattle.css_small.proofs.Marks.{one_next}
 use Rattle.css_small.proofs.Enclosures.{one_takes, one_enclosed, not_both}
 use Rattle.css_small.proofs.FormTokens.{form_of_closing_brace}

@@ -1,5 +1,5 @@
 -- What stands at the front of some tokens.
-use Rattle.std.specs.Prelude.{◌≡◌, ℕ, List, [], ◌∷◌, map, Option}
+use Rattle.std.specs.Prelude.{◌≡◌, ℕ, List, [], ◌∷◌, map}
 use Rattle.css_base.specs.Tokens.{Kind, Punctuator, Lexeme}
 use Rattle.css_small.specs.Grammar.{kind_at}
 

@@ -9,7 +9,7 @@
 --               NAME, NAME "[" expr "]", NUMBER, "(" expr ")"
 -- TASK is a directive with the words `task inout ( NAME )`, of the function's parameter; DIRECTIVE is one with the word `start`,
 -- `finish` or `barrier`. Elements are those of a function's parameter. Calls, putchar, return and DIRECTIVE stand in main alone.
-use Rattle.std.specs.Prelude.{◌≡◌, ℕ, ◌+◌, ◌-◌, ◌<◌, ◌≤◌, ◌⊎◌, List, [], ◌∷◌, ◌++◌, length, map, fold, codes, All, Contains, Option, Some, None, slice_get, Bool, true, false, if◌then◌else◌, bytes_eq}
+use Rattle.std.specs.Prelude.{◌≡◌, ℕ, ◌+◌, ◌-◌, ◌<◌, ◌≤◌, ◌⊎◌, List, [], ◌∷◌, ◌++◌, length, map, fold, codes, All, Contains, Some, slice_get, Bool, true, false, if◌then◌else◌, bytes_eq}
 use Rattle.std.specs.List.{list_any}
 use Rattle.css_base.specs.declared.int_type.IntType.TheVariants as types
 use Rattle.css_base.specs.Tokens as tokens

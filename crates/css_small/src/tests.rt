@@ -13,7 +13,11 @@ fn write_expression(out: &mut String, e: &Expression) -> Result<(), AllocError> 
     match e {
         Expression::Number(value) => write!(out, "{value}"),
         Expression::Variable(k) => write!(out, "v{k}"),
-        Expression::Element(index) => write_element(out, index),
+        Expression::Element(index) => {
+            out.push_str("p[")?;
+            write_expression(out, index)?;
+            out.push_str("]")
+        }
         Expression::Unary(op, a) => {
             write!(out, "({op:?} ")?;
             write_expression(out, a)?;
@@ -27,13 +31,6 @@ fn write_expression(out: &mut String, e: &Expression) -> Result<(), AllocError> 
             out.push_str(")")
         }
     }
-}
-
-/// Writes the element of the parameter at an index.
-fn write_element(out: &mut String, index: &Expression) -> Result<(), AllocError> {
-    out.push_str("p[")?;
-    write_expression(out, index)?;
-    out.push_str("]")
 }
 
 /// Writes what stands before the two operands.
@@ -125,9 +122,9 @@ fn write_simple(out: &mut String, statement: &Statement) -> Result<(), AllocErro
             write_expression(out, value)
         }
         Statement::AssignElement { line, index, value } => {
-            write!(out, "{}:", line.number())?;
-            write_element(out, index)?;
-            out.push_str("=")?;
+            write!(out, "{}:p[", line.number())?;
+            write_expression(out, index)?;
+            out.push_str("]=")?;
             write_expression(out, value)
         }
         Statement::Call {

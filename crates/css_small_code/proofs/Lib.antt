@@ -42,3 +42,4 @@ pub mod StraightFaults
 pub mod StraightSteps
 pub mod Trees
 pub mod Verdicts
+pub mod Unmarked

@@ -1,5 +1,6 @@
 pub mod Meaning
 pub mod Code
+pub mod Marks
 pub mod Correct
 pub mod Fuel
 pub mod Lines

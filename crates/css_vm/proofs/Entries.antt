@@ -1,5 +1,5 @@
 -- Arguments that are stored one after another, and entries.
-use Rattle.std.proofs.Common.{◌≡◌, ℕ, zero, suc, ◌+◌, ◌-◌, ◌*◌, ◌%◌, ◌^◌, ◌<◌, List, [], ◌∷◌, length, map, drop, get_or, refl, sym, ap, subst, ◌∙◌, drop_of_length-le, drop-cons, arith}
+use Rattle.std.proofs.Common.{◌≡◌, ℕ, suc, ◌+◌, ◌*◌, ◌%◌, ◌^◌, ◌<◌, List, [], ◌∷◌, length, map, drop, get_or, refl, ap, ◌∙◌, drop_of_length-le, drop-cons, arith}
 use Rattle.css_base.specs.declared.ending.Stop.{Stop}
 use Rattle.css_semantics.specs.Dialogue.{Action, Enter, Store, Reply, Says, Tape, World, Outcome, Goes, then_do, ask}
 use Rattle.css_semantics.specs.Memory.{big_endian_bytes}

@@ -1,33 +1,30 @@
 -- What the instructions do at which the steps of an activation pause.
-use Rattle.std.proofs.Common.{◌≡◌, ℕ, zero, suc, ◌+◌, ◌-◌, ◌*◌, ◌%◌, ◌^◌, ◌<◌, ◌≤◌, List, [], ◌∷◌, length, map, take, drop, reverse, Some, slice_get, nat_le, true, false, refl, sym, ap, ap₂, subst, ◌∙◌, arith, zero-add, le-leb, pow_pos, mod-lt, mod-eq_of_lt, inl, inr}
-use Rattle.std.proofs.lemmas.List.{length-drop}
+use Rattle.std.proofs.Common.{◌≡◌, ℕ, zero, suc, ◌+◌, ◌-◌, ◌*◌, ◌%◌, ◌^◌, ◌<◌, ◌≤◌, List, [], ◌∷◌, length, take, drop, reverse, Some, slice_get, nat_le, true, false, refl, sym, ap, ap₂, subst, ◌∙◌, arith, zero-add, le-leb, pow_pos, mod-lt, mod-eq_of_lt, inl, inr}
+use Rattle.std.proofs.lemmas.List.{length-drop, length-reverse, length-take-le}
 use Rattle.css_base.specs.declared.ending.Stop.{Stop}
 use Rattle.css_base.specs.declared.ending.Stop.TheVariants as stops
 use Rattle.css_base.specs.declared.rule.Rule.TheVariants.{Units}
-use Rattle.css_semantics.specs.Dialogue.{Action, Enter, Turn, Leave, Out, Calls, Returns, Start, Finish, Barrier, Reply, Says, Fails, Refuses, Tape, World, Call, Outcome, Goes, Stops, then_do, ask, item, replied}
+use Rattle.css_semantics.specs.Dialogue.{Action, Turn, Leave, Out, Calls, Returns, Start, Finish, Barrier, Reply, Says, Tape, World, Call, Goes, then_do, ask, item, replied}
 use Rattle.css_semantics.specs.Units.{with_units, within, metered, spending}
-use Rattle.css_semantics.specs.Tasks.{is_started}
 use Rattle.css_vm.specs.declared.code.Op.{Op}
 use Rattle.css_vm.specs.declared.code.Op.TheVariants as ops
 use Rattle.css_vm.specs.declared.code.Conversion.{Conversion}
 use Rattle.css_vm.specs.declared.code.Conversion.TheVariants as conversions
 use Rattle.css_vm.specs.declared.code.MarkKind.{MarkKind}
 use Rattle.css_vm.specs.declared.code.MarkKind.TheVariants as marks
-use Rattle.css_vm.specs.declared.machine.Event.{Event}
 use Rattle.css_vm.specs.declared.machine.Event.TheVariants as events
 use Rattle.css_vm.specs.declared.machine.Submitted.{Submitted}
 use Rattle.css_vm.specs.declared.rounds.Round.TheVariants as rounds
-use Rattle.css_vm.specs.Cells.{truth}
 use Rattle.css_vm.specs.Code.{Routine, Shape, Code, all_dimensions, scalars_of, pointers_of, narrowed_to, call_of}
-use Rattle.css_vm.specs.Machine.{State, Begin, At, Activation, Caller, After, On, Finished, effect, next, calling, called, entered, on_function, on_task, on_many, frame_of, exec, go_on, answered}
-use Rattle.css_vm.specs.Soundness.{Spot, Leads, IsFine, IsSound, IsSpot, IsAt, Fits, Names, needs, takes, gives, arguments_taken, dimensions_taken, dimensions_of_task}
+use Rattle.css_vm.specs.Machine.{State, Begin, At, Activation, Caller, On, effect, next, calling, called, entered, frame_of, exec, go_on}
+use Rattle.css_vm.specs.Soundness.{Spot, Leads, IsFine, IsSound, IsSpot, Fits, Names, needs, takes, arguments_taken, dimensions_taken, dimensions_of_task}
 use Rattle.css_vm.specs.Spaces.{IsRefusal, IsStackPlace}
-use Rattle.css_vm.specs.Events.{Along, StopsAt, PassesCalls, IsStacked, StandAbove, Does, Falls, base_of}
+use Rattle.css_vm.specs.Events.{Along, StopsAt, PassesCalls, IsStacked, Does, Falls, IsWhole}
 use Rattle.css_vm.specs.Stacks.{running}
-use Rattle.css_vm.specs.States.{function_of, stack_of, depth, moved, pushed, dropped, with_callee, returned, marked, Submits}
-use Rattle.css_vm.specs.Steps.{HasInstr, IsBefore, ComesOn, ComesToStop, Enters, StopsEntering, Went, Comes, ComesRound}
+use Rattle.css_vm.specs.States.{function_of, stack_of, depth, moved, dropped, with_callee, returned, marked, Submits}
+use Rattle.css_vm.specs.Steps.{HasInstr, IsBefore, ComesOn, Enters, StopsEntering, Comes, ComesRound}
 use Rattle.css_vm.proofs.Requests.{along_map, along_none, along_says_then, along_refused_then}
-use Rattle.css_vm.proofs.Steps.{then_assoc, fine_at, next_at, stays_at, exec_step, step_on, step_stops}
+use Rattle.css_vm.proofs.Steps.{then_assoc, fine_at, next_at, stays_at, exec_step, step_on}
 use Rattle.css_vm.proofs.Runs.{plan_at}
 
 -- where a unit is left, the reply is as it is without units
@@ -43,6 +40,12 @@ narrowed_twice (width ∷ parameters) (a ∷ arguments) =
     let some : 0 < 2 ^ (8 * width) = pow_pos (8 * width) in
     let narrow : a % 2 ^ (8 * width) % 2 ^ (8 * width) ≡ a % 2 ^ (8 * width) = mod-eq_of_lt (mod-lt a some) in
     ap₂ (λ x xs. x ∷ xs) narrow (narrowed_twice parameters arguments)
+
+-- an argument for each parameter stays one
+narrowed_length : (parameters arguments : List ℕ) → length arguments ≡ length parameters → length (narrowed_to parameters arguments) ≡ length parameters
+narrowed_length [] arguments same = refl
+narrowed_length (width ∷ parameters) [] same = absurd (omega arith)
+narrowed_length (width ∷ parameters) (a ∷ arguments) same = ap suc (narrowed_length parameters arguments (omega arith))
 
 same_call : (k : ℕ) (g : Routine) (shape : Shape) (arguments dimensions : List ℕ) (base : ℕ) → call_of k g shape (narrowed_to g.parameters arguments) dimensions base ≡ call_of k g shape arguments dimensions base
 same_call k g shape arguments dimensions base =
@@ -341,6 +344,21 @@ module _ {S : Type 0} (reply : S → Action → Reply) (learn : S → Action →
         let same : spot.height - takes code (ops.Submit k) + 1 ≡ length (0 ∷ rest) = omega (arith, length-drop (length g.parameters) below, length-drop (all_dimensions shape.arguments) stack) in
         subst (Leads plan (at + 1) spot) same fine.goes_on)
 
+    submit_whole : (call : Submitted) → call.function ≡ k → call.arguments.items ≡ narrowed_to g.parameters arguments → call.dims.items ≡ dimensions → IsWhole code call
+    submit_whole call named passed given =
+        let first : all_dimensions shape.arguments ≤ length stack = omega arith in
+        let second : length g.parameters ≤ length below = omega (arith, length-drop (all_dimensions shape.arguments) stack) in
+        let count : length arguments ≡ length g.parameters = length-reverse (take (length g.parameters) below) ∙ length-take-le (length g.parameters) below second in
+        record {
+          function = g;
+          shape = shape;
+          is_there = rw named there;
+          is_task = is_task;
+          arguments = rw passed (narrowed_length g.parameters arguments count);
+          narrowed = rw passed (narrowed_twice g.parameters arguments);
+          dimensions = rw given (length-reverse (take (all_dimensions shape.arguments) stack) ∙ length-take-le (all_dimensions shape.arguments) stack first);
+        }
+
   pub comes_submit : (s : State) (space : S) (units : ℕ) (call : Submitted) (new : State) → IsBefore code (ops.Submit call.function) line s → IsStacked code (place space) s → Submits code s line call new → Comes reply learn place code s space units (events.Submit call) new space units
   comes_submit (Begin function arguments at) space units call new before stacked submits = absurd before
   comes_submit (At a callers at stack) space units call new before stacked submits =
@@ -364,7 +382,7 @@ module _ {S : Type 0} (reply : S → Action → Reply) (learn : S → Action →
                     (submit_runs a callers at k g shape stack submits.is_there submits.is_task submits.cells before w passes tape n),
               ));
         },
-        (tt, submit_falls a callers at k g shape stack submits.is_there submits.is_task submits.cells units before, stacked),
+        (tt, submit_falls a callers at k g shape stack submits.is_there submits.is_task submits.cells units before, stacked, submit_whole a callers at k g shape stack submits.is_there submits.is_task submits.cells call refl submits.arguments submits.dimensions),
       )
 
   -- ---- returns

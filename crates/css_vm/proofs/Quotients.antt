@@ -1,5 +1,5 @@
 -- A quotient of two cells, as the code wraps it.
-use Rattle.std.proofs.Common.{◌≡◌, ℕ, suc, ◌+◌, ◌-◌, ◌/◌, ◌%◌, ◌^◌, ◌<◌, ◌≤◌, ℤ, pos, negsuc, w64, to_z, of_z, int_div, arith, sym, ap, ◌∙◌}
+use Rattle.std.proofs.Common.{◌≡◌, ℕ, suc, ◌+◌, ◌-◌, ◌/◌, ◌^◌, ◌<◌, ◌≤◌, ℤ, pos, negsuc, w64, to_z, of_z, int_div, arith, ap, ◌∙◌}
 use Rattle.std.proofs.lemmas.Int.{of_z-to_z}
 use Rattle.std.specs.Int.{int_wrapping_div}
 use Rattle.std.proofs.lemmas.Nat.{pow_pos}

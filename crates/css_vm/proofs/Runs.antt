@@ -1,10 +1,7 @@
 -- Steps in a row of the whole machine, up to an event.
-use Rattle.std.proofs.Common.{◌≡◌, ℕ, zero, suc, ◌+◌, ◌-◌, ◌<◌, ◌≤◌, List, [], ◌∷◌, length, Some, slice_get, false, refl, ◌∙◌, ap, sym, subst, arith, zero-add, inl, inr}
-use Rattle.css_base.specs.declared.ending.Stop.{Stop}
+use Rattle.std.proofs.Common.{◌≡◌, ℕ, suc, ◌+◌, ◌≤◌, List, [], ◌∷◌, length, Some, slice_get, refl, ◌∙◌, subst, arith, inl, inr}
 use Rattle.css_semantics.specs.Dialogue.{Action, Reply, Tape, World}
 use Rattle.css_semantics.specs.Units.{with_units, metered, spending}
-use Rattle.css_vm.specs.declared.code.Op.{Op}
-use Rattle.css_vm.specs.declared.code.Op.TheVariants as ops
 use Rattle.css_vm.specs.declared.code.MarkKind.TheVariants as marks
 use Rattle.css_vm.specs.declared.machine.Event.{Event}
 use Rattle.css_vm.specs.declared.machine.Event.TheVariants as events
@@ -15,12 +12,12 @@ use Rattle.css_vm.specs.declared.rounds.Round.TheVariants as rounds
 use Rattle.css_vm.specs.Code.{Routine, Code}
 use Rattle.css_vm.specs.Machine.{State, Begin, At, Caller, exec, answered}
 use Rattle.css_vm.specs.Soundness.{Spot, IsSoundBody, IsSound, IsSpot, IsAt, Fits}
-use Rattle.css_vm.specs.Events.{IsLower, IsStacked, Does, DoesMark, Reaches, Falls, Leaves}
+use Rattle.css_vm.specs.Events.{IsLower, IsStacked, Does, Falls, Leaves}
 use Rattle.css_vm.specs.Stacks.{running}
 use Rattle.css_vm.specs.States.{depth}
 use Rattle.css_vm.proofs.Requests.{along_map, along_then}
 use Rattle.css_vm.proofs.Steps.{on_none, on_then}
-use Rattle.css_vm.specs.Steps.{IsPlaced, IsNoHigher, ComesOn, ComesToStop, RanInside, Pauses, Went, Comes, ComesToPause, ComesRound, ComesToEntry}
+use Rattle.css_vm.specs.Steps.{IsPlaced, IsNoHigher, ComesOn, ComesToStop, RanInside, Pauses, Went, Comes, ComesToPause, ComesRound}
 
 -- ---- the plan of the function that runs
 
@@ -173,7 +170,7 @@ module _ {S : Type 0} (reply : S → Action → Reply) (learn : S → Action →
 
         leaves_then : (e : Event) → Leaves code mid left e new units' (place later) → Leaves code old units e new units' (place later)
         leaves_then (events.Out bytes) leaves = (leaves.0, falls_then leaves.1, leaves.2)
-        leaves_then (events.Submit s) leaves = (leaves.0, falls_then leaves.1, leaves.2)
+        leaves_then (events.Submit s) leaves = (leaves.0, falls_then leaves.1, leaves.2, leaves.3)
         leaves_then (events.Mark kind line) leaves = (leaves.0, falls_then leaves.1, leaves.2)
         leaves_then (events.Ended value line) leaves = leaves
         leaves_then (events.Stopped stop line) leaves = tt
@@ -218,3 +215,15 @@ pub answered_fits : (code : Code) (old new : State) (units units' r : ℕ) → F
 answered_fits code old new units units' r falls fits =
     let here = falls fits.0 fits.2.0 fits.1 fits.2.1 in
     (fits.0, fits.1, (here.0, answered_at code fits.0 here.0 r new here.1))
+
+-- a machine whose steps or units have fallen fits
+pub falls_fits : (code : Code) (old new : State) (units units' : ℕ) → Falls code old units new units' → Fits code old → Fits code new
+falls_fits code old new units units' falls fits =
+    let here = falls fits.0 fits.2.0 fits.1 fits.2.1 in
+    (fits.0, fits.1, (here.0, here.1))
+
+-- an answer leaves the frames as they are
+pub answered_stacked : (code : Code) (place r : ℕ) (s : State) → IsStacked code place s → IsStacked code place (answered r s)
+answered_stacked code place r (Begin function arguments line) stacked = stacked
+answered_stacked code place r (At a callers at []) stacked = stacked
+answered_stacked code place r (At a callers at (x ∷ rest)) stacked = stacked

@@ -1,5 +1,5 @@
 -- What a step of the machine does at an instruction inside a function, whatever the code and the callers.
-use Rattle.std.proofs.Common.{◌≡◌, ℕ, zero, suc, ◌+◌, ◌-◌, ◌<◌, ◌≤◌, List, [], ◌∷◌, length, Some, slice_get, IsTrue, nat_eq, true, false, refl, sym, ◌∙◌, ap, subst, arith, zero-add}
+use Rattle.std.proofs.Common.{◌≡◌, ℕ, zero, suc, ◌+◌, ◌-◌, ◌<◌, ◌≤◌, List, ◌∷◌, length, Some, slice_get, IsTrue, nat_eq, true, false, refl, ◌∙◌, ap, subst, arith, zero-add}
 use Rattle.std.proofs.Math.Dec.{eqb-suc-zero}
 use Rattle.css_base.specs.declared.ending.Stop.{Stop}
 use Rattle.css_semantics.specs.Dialogue.{Action, Reply, Tape, World, Outcome, Goes, Stops, then_do}
@@ -10,11 +10,11 @@ use Rattle.css_vm.specs.declared.step.Pause.{Pause}
 use Rattle.css_vm.specs.declared.step.Pause.TheVariants as pauses
 use Rattle.css_vm.specs.Code.{Routine, Code}
 use Rattle.css_vm.specs.Machine.{State, At, Activation, Caller, On, effect, at_instr, on_function, exec, go_on}
-use Rattle.css_vm.specs.Soundness.{Spot, Stays, Leads, GoesOn, IsFine, IsSoundBody, takes, gives, needs}
+use Rattle.css_vm.specs.Soundness.{Spot, Stays, Leads, GoesOn, IsFine, IsSoundBody, takes, gives}
 use Rattle.css_vm.specs.Events.{Along, StopsAt}
 use Rattle.css_vm.specs.Effects.{goes_on, no_functions, Performs, Halts}
 use Rattle.css_vm.specs.Stacks.{running}
-use Rattle.css_vm.specs.Steps.{is_pause, IsPlaced, HasInstr, ComesOn, ComesToStop, RanInside, StopsInside, Pauses}
+use Rattle.css_vm.specs.Steps.{is_pause, IsPlaced, ComesOn, ComesToStop, RanInside, StopsInside, Pauses}
 use Rattle.css_vm.proofs.Requests.{along_map, along_then, along_none}
 
 pub then_assoc : {A B C : Type 0} (o : Outcome A) (f : A → Tape → Outcome B) (g : B → Tape → Outcome C) → then_do (then_do o f) g ≡ then_do o (λ a t. then_do (f a t) g)

@@ -1,5 +1,5 @@
 -- Cells of 64 bits, and what instructions make of them.
-use Rattle.std.specs.Prelude.{ℕ, ◌+◌, ◌-◌, ◌*◌, ◌%◌, ◌^◌, ℤ, pos, Bool, true, false, not, nat_eq, int_lt, bit_and, bit_or, bit_xor, int_div, int_rem}
+use Rattle.std.specs.Prelude.{ℕ, ◌+◌, ◌-◌, ◌*◌, ◌%◌, ◌^◌, ℤ, pos, Bool, true, false, not, nat_eq, int_lt, int_div, int_rem}
 use Rattle.css_base.specs.declared.int_type.IntType.{IntType}
 use Rattle.css_base.specs.declared.int_type.IntType.TheVariants as types
 use Rattle.css_num.specs.Conversion.{modulo, represented, converted}

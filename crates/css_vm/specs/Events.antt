@@ -1,17 +1,17 @@
 -- What a machine's run to the next event does, over a space and with units.
-use Rattle.std.specs.Prelude.{◌≡◌, ℕ, suc, ◌+◌, ◌<◌, ◌⊎◌, List, [], ◌∷◌, ◌++◌, Some, slice_get}
+use Rattle.std.specs.Prelude.{◌≡◌, ℕ, suc, ◌+◌, ◌<◌, ◌⊎◌, List, [], ◌∷◌, ◌++◌, length, Some, slice_get}
 use Rattle.css_base.specs.declared.ending.Stop.{Stop}
 use Rattle.css_semantics.specs.Dialogue.{Action, Reply, Says, Out, Calls, Returns, Start, Finish, Barrier, Call, Tape, World, Outcome, Goes, Stops, Stopped, item, then_do, ask}
 use Rattle.css_semantics.specs.Worlds.{state_after, AreOfMachine, Follows}
-use Rattle.css_semantics.specs.Units.{with_units, metered, spending}
 use Rattle.css_semantics.specs.Tasks.{is_started}
 use Rattle.css_vm.specs.declared.code.MarkKind.{MarkKind}
 use Rattle.css_vm.specs.declared.code.MarkKind.TheVariants as marks
 use Rattle.css_vm.specs.declared.machine.Event.{Event}
 use Rattle.css_vm.specs.declared.machine.Event.TheVariants as events
 use Rattle.css_vm.specs.Cells.{truth}
-use Rattle.css_vm.specs.Code.{Routine, Shape, Code, call_of}
-use Rattle.css_vm.specs.Machine.{State, Begin, At, Activation, Caller, Finished, frame_of, exec, answered, IsOwed}
+use Rattle.css_vm.specs.declared.machine.Submitted.{Submitted}
+use Rattle.css_vm.specs.Code.{Routine, Shape, Code, all_dimensions, narrowed_to, call_of}
+use Rattle.css_vm.specs.Machine.{State, Begin, At, Caller, Finished, frame_of, exec, answered, IsOwed}
 use Rattle.css_vm.specs.Soundness.{Spot, IsSound, IsAt}
 
 -- ---- frames
@@ -108,11 +108,21 @@ abbrev pub IsOwedAt : MarkKind → State → Type 0
 IsOwedAt marks.Started new = IsOwed new
 IsOwedAt kind new = Unit {0}
 
+-- a task's call has an argument for each parameter, of no more bytes than that has, and the dimensions of the task's shape
+pub record IsWhole (code : Code) (s : Submitted) : Type 0 where
+  pub function : Routine
+  pub shape : Shape
+  pub is_there : slice_get code.functions s.function ≡ Some function
+  pub is_task : function.task ≡ Some shape
+  pub arguments : length s.arguments.items ≡ length function.parameters
+  pub narrowed : narrowed_to function.parameters s.arguments.items ≡ s.arguments.items
+  pub dimensions : length s.dims.items ≡ all_dimensions shape.arguments
+
 -- After an event that is owed an answer the machine has a cell for it; the units have fallen, or the steps that are left; and its
--- frames stand at the space's stack place. A function that ends has its frame.
+-- frames stand at the space's stack place. A function that ends has its frame. A task's call is whole.
 abbrev pub Leaves : Code → State → ℕ → Event → State → ℕ → (place : ℕ) → Type 0
 Leaves code old units (events.Out bytes) new units' place = IsOwed new × Falls code old units new units' × IsStacked code place new
-Leaves code old units (events.Submit s) new units' place = IsOwed new × Falls code old units new units' × IsStacked code place new
+Leaves code old units (events.Submit s) new units' place = IsOwed new × Falls code old units new units' × IsStacked code place new × IsWhole code s
 Leaves code old units (events.Mark kind line) new units' place = IsOwedAt kind new × Falls code old units new units' × IsStacked code place new
 Leaves code old units (events.Ended value line) new units' place = IsInside new × IsStacked code place new
 Leaves code old units (events.Stopped stop line) new units' place = Unit {0}

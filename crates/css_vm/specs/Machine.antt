@@ -1,5 +1,5 @@
 -- The stack machine's dialogue with a world, by its step table.
-use Rattle.std.specs.Prelude.{ℕ, ℤ, zero, suc, ◌+◌, ◌*◌, ◌%◌, ◌^◌, Bool, true, false, List, [], ◌∷◌, length, take, drop, reverse, Option, Some, None, slice_get, nat_eq, nat_le, if◌then◌else◌, bit_and, bit_or, bit_xor}
+use Rattle.std.specs.Prelude.{ℕ, ℤ, zero, suc, ◌+◌, ◌%◌, ◌^◌, Bool, true, false, List, [], ◌∷◌, length, take, drop, reverse, Option, Some, None, slice_get, nat_eq, nat_le, if◌then◌else◌, bit_and, bit_or, bit_xor}
 use Rattle.css_base.specs.declared.ending.FaultKind.TheVariants.{DivideByZero}
 use Rattle.css_semantics.specs.Dialogue.{Enter, Turn, Leave, Load, Store, Out, Calls, Returns, Start, Finish, Barrier, End, Tape, World, Outcome, Goes, Stops, Tired, then_do, ask, fault}
 use Rattle.css_semantics.specs.Memory.{big_endian_bytes}

@@ -1,6 +1,6 @@
 -- Code that is never stuck, and goes on by itself for so many steps at most: each place of each function has a stack height and a
 -- rank, which falls at each step but a turn and a call.
-use Rattle.std.specs.Prelude.{◌≡◌, ℕ, suc, ◌+◌, ◌-◌, ◌<◌, ◌≤◌, true, List, [], ◌∷◌, length, All, Contains, Option, Some, None, slice_get, IfSome}
+use Rattle.std.specs.Prelude.{◌≡◌, ℕ, suc, ◌+◌, ◌-◌, ◌<◌, ◌≤◌, true, List, [], ◌∷◌, length, All, Contains, Option, Some, None, slice_get}
 use Rattle.css_vm.specs.declared.code.ArgShape.{ArgShape}
 use Rattle.css_vm.specs.declared.code.ArgShape.TheVariants as shapes
 use Rattle.css_vm.specs.declared.code.Instr.{Instr}
@@ -8,7 +8,7 @@ use Rattle.css_vm.specs.declared.code.Op.{Op}
 use Rattle.css_vm.specs.declared.code.Op.TheVariants as ops
 use Rattle.css_vm.specs.declared.code.MarkKind.TheVariants as marks
 use Rattle.css_vm.specs.Code.{Routine, Shape, Code, all_dimensions}
-use Rattle.css_vm.specs.Machine.{State, Begin, At, Activation, Caller}
+use Rattle.css_vm.specs.Machine.{State, Begin, At, Caller}
 
 -- the cells on the stack at a place, and how many steps are left at most up to a turn, a call or the end
 pub record Spot : Type 0 where

@@ -1,5 +1,5 @@
 -- The cells of all activations that are open: each activation's stand above its caller's.
-use Rattle.std.specs.Prelude.{ℕ, ◌≤◌, Bool, false, List, [], ◌∷◌, take, drop, reverse}
+use Rattle.std.specs.Prelude.{ℕ, ◌≤◌, false, List, [], ◌∷◌, take, drop, reverse}
 use Rattle.css_vm.specs.declared.activations.Saved.{Saved}
 use Rattle.css_vm.specs.Machine.{Activation, Caller}
 

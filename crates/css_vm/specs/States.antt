@@ -4,7 +4,7 @@ use Rattle.css_vm.specs.declared.code.MarkKind.{MarkKind}
 use Rattle.css_vm.specs.declared.code.MarkKind.TheVariants as marks
 use Rattle.css_vm.specs.declared.machine.Submitted.{Submitted}
 use Rattle.css_vm.specs.Code.{Routine, Shape, Code, all_dimensions, narrowed_to}
-use Rattle.css_vm.specs.Machine.{State, Begin, At, Activation, Caller}
+use Rattle.css_vm.specs.Machine.{State, Begin, At}
 use Rattle.css_vm.specs.Stacks.{running}
 
 -- the number of the function that runs, the place of its next instruction, and its stack

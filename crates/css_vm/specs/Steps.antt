@@ -1,5 +1,5 @@
 -- What the machine's inner functions do: steps inside a function, entries, and rounds of steps up to an entry or a return.
-use Rattle.std.specs.Prelude.{◌≡◌, ℕ, suc, ◌+◌, ◌^◌, ◌<◌, ◌≤◌, ◌⊎◌, Bool, true, false, List, [], ◌∷◌, length, Option, Some, None, slice_get}
+use Rattle.std.specs.Prelude.{◌≡◌, ℕ, suc, ◌+◌, ◌^◌, ◌<◌, ◌≤◌, ◌⊎◌, Bool, true, false, List, length, Option, Some, None, slice_get}
 use Rattle.css_base.specs.declared.ending.Stop.{Stop}
 use Rattle.css_semantics.specs.Dialogue.{Action, Reply, Tape, World, Goes}
 use Rattle.css_semantics.specs.Units.{with_units, metered, spending}
@@ -13,7 +13,7 @@ use Rattle.css_vm.specs.declared.step.Pause.TheVariants as pauses
 use Rattle.css_vm.specs.declared.rounds.Round.{Round}
 use Rattle.css_vm.specs.declared.rounds.Round.TheVariants as rounds
 use Rattle.css_vm.specs.Code.{Routine, Code}
-use Rattle.css_vm.specs.Machine.{State, Begin, At, Activation, Caller, exec, entered, stores}
+use Rattle.css_vm.specs.Machine.{State, Begin, At, Caller, exec, entered, stores}
 use Rattle.css_vm.specs.Soundness.{Spot, IsSoundBody, IsSound, IsAt}
 use Rattle.css_vm.specs.Events.{Along, StopsAt, Reaches, Leaves, IsStacked}
 use Rattle.css_vm.specs.Stacks.{running}

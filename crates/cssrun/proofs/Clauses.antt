@@ -1,10 +1,9 @@
 -- What the ways in which a call ends say of its status.
 use Rattle.std.proofs.Common.{◌≡◌, ℕ, ◌<◌, ◌≤◌, ◌⊎◌, inl, inr, List, Option, Some, sym, ap, ◌∙◌, subst, arith}
 use Rattle.std.specs.Prelude.{IfSome}
-use Rattle.css_small.specs.Grammar.{IsNotBuilt}
 use Rattle.css_words.specs.declared.request.Request.{Request}
 use Rattle.cssrun.specs.Request.{Asks, AreRefused}
-use Rattle.cssrun.specs.Answer.{Answer, IsTextAnswer, Refused, Ended, IsAnswer, WordsRefused, Asked, words_refused, read_fault}
+use Rattle.cssrun.specs.Answer.{Answer, IsOutside, IsTextAnswer, Refused, Ended, IsAnswer, WordsRefused, Asked, words_refused, read_fault}
 use Rattle.cssrun.specs.Ends.{Change, HasFailed, Got, GotPrefix, Whole, Cut, Starved, Finishes, Written, CutLine, IsText, ShelfFailed, PlainEnds, Answered, Unread, Unheard, IsWhole, IsCutShort, IsStarved, IsSmooth}
 use Rattle.cssrun.proofs.OneAnswer.{answer_status, text_answer_status, is_built}
 use Rattle.cssrun.proofs.Runs.{IsRunStatus, run_answer_status}
@@ -36,13 +35,13 @@ refused_answer words text a (Asked request asks answer) two =
     absurd (not_two a.status (text_answer_status request.limits text a answer) two)
 
 -- an answer with status 3 is that to a text that isn't of the part that is built
-not_built_answer : (words : List (List ℕ)) (text : List ℕ) (a : Answer) → IsAnswer words text a → a.status ≡ 3 → IsNotBuilt text
+not_built_answer : (words : List (List ℕ)) (text : List ℕ) (a : Answer) → IsAnswer words text a → a.status ≡ 3 → IsOutside text
 not_built_answer words text a (WordsRefused refused is) three = absurd (let two : a.status ≡ 2 = ap (λ (x : Answer). x.status) is in omega arith)
 not_built_answer words text a (Asked request asks (Refused not is)) three = not
 not_built_answer words text a (Asked request asks (Ended p short spells run)) three = absurd (not_three a.status (run_answer_status request.limits p a run) three)
 
 -- a text that isn't of the part that is built is answered with status 3
-not_built_status : (words : List (List ℕ)) (request : Request) (text : List ℕ) (a : Answer) → Asks words request → IsNotBuilt text → IsAnswer words text a → a.status ≡ 3
+not_built_status : (words : List (List ℕ)) (request : Request) (text : List ℕ) (a : Answer) → Asks words request → IsOutside text → IsAnswer words text a → a.status ≡ 3
 not_built_status words request text a asks not (WordsRefused refused is) = absurd (asks_nothing words request refused asks)
 not_built_status words request text a asks not (Asked other also (Refused not' is)) = ap (λ (x : Answer). x.status) is
 not_built_status words request text a asks not (Asked other also (Ended p short spells run)) = absurd (is_built text p short spells not)
@@ -68,7 +67,7 @@ module _ (words : List (List ℕ)) (told : List ℕ → Option (List ℕ)) (befo
   at_two (Unheard same (Written eight got)) two = absurd (omega arith)
   at_two (Unheard same (CutLine seven report_failed got)) two = absurd (omega arith)
 
-  pub at_three : PlainEnds words told before after out report status → status ≡ 3 → (text : List ℕ) × IsText words told text × IsNotBuilt text
+  pub at_three : PlainEnds words told before after out report status → status ≡ 3 → (text : List ℕ) × IsText words told text × IsOutside text
   at_three (Answered text is (Whole a one same got_out got)) three = (text, is, not_built_answer words text a one (sym same ∙ three))
   at_three (Answered text is (Cut seven failed got)) three = absurd (omega arith)
   at_three (Answered text is (Starved eight got)) three = absurd (omega arith)
@@ -125,10 +124,10 @@ module _ (words : List (List ℕ)) (told : List ℕ → Option (List ℕ)) (befo
   at_most_eight (Unheard same (Written eight got)) = omega arith
   at_most_eight (Unheard same (CutLine seven report_failed got)) = omega arith
 
-  pub not_built_only : PlainEnds words told before after out report status → (request : Request) (text : List ℕ) → Asks words request → told request.file ≡ Some text → IsNotBuilt text
+  pub not_built_only : PlainEnds words told before after out report status → (request : Request) (text : List ℕ) → Asks words request → told request.file ≡ Some text → IsOutside text
       → (status ≡ 3) ⊎ (6 ≤ status)
   not_built_only (Answered other is (Whole a one same got_out got)) request text asks told_is not =
-      let not' = subst (λ t. IsNotBuilt t) (sym (told_text words told request text other asks told_is is)) not in
+      let not' = subst (λ t. IsOutside t) (sym (told_text words told request text other asks told_is is)) not in
       inl (same ∙ not_built_status words request other a asks not' one)
   not_built_only (Answered other is (Cut seven failed got)) request text asks told_is not = inr (omega arith)
   not_built_only (Answered other is (Starved eight got)) request text asks told_is not = inr (omega arith)

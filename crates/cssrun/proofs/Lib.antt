@@ -1,8 +1,11 @@
 pub mod Exec
 pub mod Sinks
 pub mod Turns
+pub mod Unmarked
 pub mod Parts
 pub mod Fuel
+pub mod Directives
+pub mod Shorter
 pub mod Words
 pub mod Endings
 pub mod Runs

@@ -3,10 +3,13 @@ use Rattle.std.proofs.Common.{◌≡◌, ℕ, ◌≤◌, ◌⊎◌, inl, inr, Li
 use Rattle.css_base.specs.declared.limits.Limits.{Limits}
 use Rattle.css_base.specs.declared.static_fault.StaticName.TheVariants as names
 use Rattle.css_small.specs.Tree.{Program}
-use Rattle.css_small.specs.Grammar.{Spells, IsNotBuilt}
+use Rattle.css_lex.specs.Lines.{erased}
+use Rattle.css_small.specs.Grammar.{Spells}
+use Rattle.css_small.specs.Numbers.{HasNumbers}
 use Rattle.css_words.specs.declared.request.Request.{Request}
-use Rattle.cssrun.specs.Answer.{Answer, IsRunAnswer, IsTextAnswer, Refused, Ended, IsAnswer, WordsRefused, Asked, static_line}
+use Rattle.cssrun.specs.Answer.{Answer, IsRunAnswer, IsOutside, IsTextAnswer, Refused, Ended, IsAnswer, WordsRefused, Asked, static_line}
 use Rattle.cssrun.proofs.Fuel.{MoreFuel, EnoughFuel}
+use Rattle.cssrun.proofs.Shorter.{erased_short}
 use Rattle.cssrun.proofs.Runs.{one_run_answer, run_answer, IsRunStatus, run_answer_status}
 use Rattle.cssrun.proofs.Words.{asks_nothing, one_request}
 
@@ -15,11 +18,12 @@ abbrev pub not_built : Answer
 not_built = record { out = []; report = static_line names.NotBuilt 1; status = 3 }
 
 -- a text of the part that is built spells a program and isn't too long
-pub is_built : (text : List ℕ) (p : Program) → length text ≤ 4194304 → Spells text p → IsNotBuilt text → ⊥
+pub is_built : (text : List ℕ) (p : Program) → length text ≤ 4194304 → Spells (erased text) p → IsOutside text → ⊥
 is_built text p short spells (inl long) = absurd (omega arith)
-is_built text p short spells (inr none) = none p spells
+is_built text p short spells (inr (inl long)) = absurd (omega (arith, erased_short text))
+is_built text p short spells (inr (inr none)) = none p spells
 
-pub not_built_is : (limits : Limits) (text : List ℕ) → IsNotBuilt text → (a : Answer) → IsTextAnswer limits text a → a ≡ not_built
+pub not_built_is : (limits : Limits) (text : List ℕ) → IsOutside text → (a : Answer) → IsTextAnswer limits text a → a ≡ not_built
 not_built_is limits text not a (Refused also is) = is
 not_built_is limits text not a (Ended p short spells run) = absurd (is_built text p short spells not)
 
@@ -27,9 +31,9 @@ abbrev pub OnlyOneProgram : Type 0
 OnlyOneProgram = (text : List ℕ) (p q : Program) → Spells text p → Spells text q → p ≡ q
 
 -- a text that spells a program has the answer of its run
-pub run_answer_of : OnlyOneProgram → (limits : Limits) (text : List ℕ) (p : Program) → length text ≤ 4194304 → Spells text p → (a : Answer) → IsTextAnswer limits text a → IsRunAnswer limits p a
+pub run_answer_of : OnlyOneProgram → (limits : Limits) (text : List ℕ) (p : Program) → length text ≤ 4194304 → Spells (erased text) p → (a : Answer) → IsTextAnswer limits text a → IsRunAnswer limits p a
 run_answer_of only limits text p short spells a (Refused not is) = absurd (is_built text p short spells not)
-run_answer_of only limits text p short spells a (Ended q short' spells' run) = subst (λ x. IsRunAnswer limits x a) (only text q p spells' spells) run
+run_answer_of only limits text p short spells a (Ended q short' spells' run) = subst (λ x. IsRunAnswer limits x a) (only (erased text) q p spells' spells) run
 
 one_text_answer : OnlyOneProgram → MoreFuel → (limits : Limits) (text : List ℕ) (a b : Answer) → IsTextAnswer limits text a → IsTextAnswer limits text b → a ≡ b
 one_text_answer only more_fuel limits text a b (Refused not is) other = is ∙ sym (not_built_is limits text not b other)
@@ -44,9 +48,12 @@ one_answer_lem only more_fuel words text a b (Asked request asks answer) (Asked 
     one_text_answer only more_fuel request.limits text a b answer
     (subst (λ (r : Request). IsTextAnswer r.limits text b) (one_request words request' request asks' asks) answer')
 
+abbrev pub NumbersFit : Type 0
+NumbersFit = (text : List ℕ) (p : Program) → Spells text p → HasNumbers p
+
 -- a text that spells a program has an answer
-pub answer_of : EnoughFuel → (limits : Limits) (text : List ℕ) (p : Program) → length text ≤ 4194304 → Spells text p → (a : Answer) × IsTextAnswer limits text a
-answer_of enough limits text p short spells = let run = run_answer enough limits p in (run.0, Ended p short spells run.1)
+pub answer_of : EnoughFuel → NumbersFit → (limits : Limits) (text : List ℕ) (p : Program) → length text ≤ 4194304 → Spells (erased text) p → (a : Answer) × IsTextAnswer limits text a
+answer_of enough numbers limits text p short spells = let run = run_answer enough limits p (numbers (erased text) p spells) in (run.0, Ended p short spells run.1)
 
 -- the status of a text's answer
 pub text_answer_status : (limits : Limits) (text : List ℕ) (a : Answer) → IsTextAnswer limits text a → (a.status ≡ 3) ⊎ IsRunStatus a.status

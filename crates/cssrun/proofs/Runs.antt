@@ -6,9 +6,10 @@ use Rattle.css_base.specs.declared.ending.Ending.TheVariants as endings
 use Rattle.css_base.specs.declared.ending.Stop.TheVariants as stops
 use Rattle.css_semantics.specs.Dialogue.{World, Outcome, Goes, Stops, Stopped, Tired, tape_of, output}
 use Rattle.css_semantics.specs.Flat.{flat}
-use Rattle.css_vm.specs.Code.{Routine}
+use Rattle.css_vm.specs.Code.{Code}
 use Rattle.css_vm.specs.Machine.{target}
 use Rattle.css_small.specs.Tree.{Program}
+use Rattle.css_small.specs.Numbers.{HasNumbers}
 use Rattle.css_small_code.specs.Meaning.{source}
 use Rattle.css_small_code.specs.Correct.{Codes}
 use Rattle.cssrun.specs.Answer.{Answer, IsRunAnswer, ending_of, ending_line, ending_status, no_memory}
@@ -65,44 +66,44 @@ run_answer_status limits p a one = subst IsRunStatus (sym one.status_is) (ending
 -- ---- the run of a program's code
 
 -- code comes to the outcome that its program has
-comes_to : (w : World) (fuel : ℕ) (f : Routine) (p : Program) → Codes f p → (o : Outcome ℤ) (ending : Ending) → source w fuel p ≡ o → ending_of o ≡ Some ending
-    → (n : ℕ) × (target w f n ≡ halted o)
-comes_to w fuel f p codes (Goes v tape) ending same is = codes.finishes w fuel v tape same
-comes_to w fuel f p codes (Stops (Stopped stop line) tape) ending same is = codes.stops w fuel stop line tape same
-comes_to w fuel f p codes (Stops Tired tape) ending same is = absurd (cc)
+comes_to : (w : World) (fuel : ℕ) (code : Code) (p : Program) → Codes code p → (o : Outcome ℤ) (ending : Ending) → source w fuel p ≡ o → ending_of o ≡ Some ending
+    → (n : ℕ) × (target w code n ≡ halted o)
+comes_to w fuel code p codes (Goes v tape) ending same is = (codes.main w).finishes fuel v tape same
+comes_to w fuel code p codes (Stops (Stopped stop line) tape) ending same is = (codes.main w).stops fuel stop line tape same
+comes_to w fuel code p codes (Stops Tired tape) ending same is = absurd (cc)
 
 -- what the run of a program's code comes to, with the ending and the output of the program's answer
-pub record Known (limits : Limits) (f : Routine) (p : Program) : Type 0 where
+pub record Known (limits : Limits) (code : Code) (p : Program) : Type 0 where
   pub o : Outcome ℤ
   pub ending : Ending
-  pub comes : ComesTo limits.memory limits.main_units f o
+  pub comes : ComesTo limits.memory limits.main_units code o
   pub ends : ending_of o ≡ Some ending
   pub answer_is : IsRunAnswer limits p (answer_from ending (output (tape_of o)))
 
-known_from : (limits : Limits) (f : Routine) (p : Program) → Codes f p → (fuel : ℕ) (ending : Ending) → ending_of (source (flat limits.memory limits.main_units) fuel p) ≡ Some ending → Known limits f p
-known_from limits f p codes fuel ending is =
+known_from : (limits : Limits) (code : Code) (p : Program) → Codes code p → (fuel : ℕ) (ending : Ending) → ending_of (source (flat limits.memory limits.main_units) fuel p) ≡ Some ending → Known limits code p
+known_from limits code p codes fuel ending is =
     let w = flat limits.memory limits.main_units in
     record {
       o = source w fuel p;
       ending = ending;
-      comes = comes_to w fuel f p codes (source w fuel p) ending refl is;
+      comes = comes_to w fuel code p codes (source w fuel p) ending refl is;
       ends = is;
       answer_is = answer_from-is limits p fuel (source w fuel p) ending refl is;
     }
 
 -- a program's code comes to what the program does, which has an ending
-pub known : EnoughFuel → (limits : Limits) (f : Routine) (p : Program) → Codes f p → Known limits f p
-known enough limits f p codes =
-    let ends = source_ends enough limits.memory limits.main_units p in
-    known_from limits f p codes (limits.main_units + 1) ends.0 ends.1
+pub known : EnoughFuel → (limits : Limits) (code : Code) (p : Program) → HasNumbers p → Codes code p → Known limits code p
+known enough limits code p numbers codes =
+    let ends = source_ends enough limits.memory limits.main_units p numbers in
+    known_from limits code p codes (limits.main_units + 1) ends.0 ends.1
 
 -- a program's run has an answer
-pub run_answer : EnoughFuel → (limits : Limits) (p : Program) → (a : Answer) × IsRunAnswer limits p a
-run_answer enough limits p =
-    let ends = source_ends enough limits.memory limits.main_units p in
+pub run_answer : EnoughFuel → (limits : Limits) (p : Program) → HasNumbers p → (a : Answer) × IsRunAnswer limits p a
+run_answer enough limits p numbers =
+    let ends = source_ends enough limits.memory limits.main_units p numbers in
     (_, answer_from-is limits p (limits.main_units + 1) (source (flat limits.memory limits.main_units) (limits.main_units + 1) p) ends.0 refl ends.1)
 
-module _ (more_fuel : MoreFuel) (limits : Limits) (f : Routine) (p : Program) (k : Known limits f p) where
+module _ (more_fuel : MoreFuel) (limits : Limits) (code : Code) (p : Program) (k : Known limits code p) where
   -- a prefix of the run's output is one of its answer's
   pub run_prefix : (out : Change) → GotPrefix out (output (tape_of k.o)) → (a : Answer) → IsRunAnswer limits p a → GotPrefix out a.out
   run_prefix out got a one =

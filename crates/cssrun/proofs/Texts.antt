@@ -6,10 +6,9 @@ use Rattle.std.proofs.lemmas.List.{take_all, length-take-le}
 use Rattle.css_base.specs.declared.limits.Limits.{Limits}
 use Rattle.css_base.specs.declared.static_fault.StaticName.{StaticName}
 use Rattle.css_base.specs.declared.static_fault.StaticName.TheVariants as names
-use Rattle.css_small.specs.Grammar.{IsNotBuilt}
 use Rattle.css_words.specs.declared.request.Request.{Request}
 use Rattle.cssrun.specs.Request.{Asks, AreRefused}
-use Rattle.cssrun.specs.Answer.{Answer, IsTextAnswer, Refused, Ended, IsAnswer, WordsRefused, Asked, static_line, words_refused, no_memory}
+use Rattle.cssrun.specs.Answer.{Answer, IsOutside, IsTextAnswer, Refused, Ended, IsAnswer, WordsRefused, Asked, static_line, words_refused, no_memory}
 use Rattle.cssrun.specs.Ends.{Change, Got, GotPrefix, Ends, Finishes, IsText, PlainEnds, Answered}
 use Rattle.cssrun.proofs.Endings.{Ends-map, ends_answer, ends_no_memory}
 use Rattle.cssrun.proofs.OneAnswer.{not_built, not_built_is}
@@ -80,7 +79,7 @@ answered_any words told before after out report status request asks ends =
     answered words told before after out report status request some.0 asks some.1 (ends some.0)
 
 -- a text that isn't of the part that is built is refused, or there is no memory for the line
-pub text_refused : (limits : Limits) (text : List ℕ) (name : StaticName) (line : ℕ) (out report : Change) (status : ℕ) → name ≡ names.NotBuilt → line ≡ 1 → IsNotBuilt text
+pub text_refused : (limits : Limits) (text : List ℕ) (name : StaticName) (line : ℕ) (out report : Change) (status : ℕ) → name ≡ names.NotBuilt → line ≡ 1 → IsOutside text
     → Got out [] → ((bytes : List ℕ) → GotPrefix out bytes) → Finishes report (static_line name line) 3 status ⊎ Finishes report no_memory 8 status → Ends (IsTextAnswer limits text) out report status
 text_refused limits text name line out report status is_name is_line not got nothing (inl finishes) =
     let named = subst (λ n. Finishes report (static_line n line) 3 status) is_name finishes in

@@ -1,5 +1,5 @@
 -- What the program answers: a definition for all words and files.
-use Rattle.std.specs.Prelude.{◌≡◌, ℕ, zero, ℤ, pos, ◌≤◌, List, [], ◌++◌, length, codes, Option, Some, None}
+use Rattle.std.specs.Prelude.{◌≡◌, ℕ, zero, ℤ, pos, ◌≤◌, ◌<◌, ◌⊎◌, List, [], ◌++◌, length, codes, Option, Some, None}
 use Rattle.std.specs.Fmt.{decimal, signed_decimal}
 use Rattle.css_base.specs.declared.static_fault.StaticName.{StaticName}
 use Rattle.css_base.specs.declared.static_fault.StaticName.TheVariants as names
@@ -13,6 +13,7 @@ use Rattle.css_base.specs.declared.limits.Limits.{Limits}
 use Rattle.css_base.specs.Labels.{static_label, rule_label, fault_label}
 use Rattle.css_semantics.specs.Dialogue.{Outcome, Goes, Stops, Stopped, Tired, tape_of, output}
 use Rattle.css_semantics.specs.Flat.{flat}
+use Rattle.css_lex.specs.Lines.{erased}
 use Rattle.css_small.specs.Tree.{Program}
 use Rattle.css_small.specs.Grammar.{Spells, IsNotBuilt}
 use Rattle.css_small_code.specs.Meaning.{source}
@@ -82,10 +83,16 @@ pub record IsRunAnswer (limits : Limits) (p : Program) (a : Answer) : Type 0 whe
   pub report_is : a.report ≡ ending_line ending
   pub status_is : a.status ≡ ending_status ending
 
--- The answer to a text: S0 with line 1 where it isn't of the part of the language that is built, and else what its run gives.
+-- A text isn't of the part of the language that is built: it is longer than 4,194,304 bytes, or spells no program without its
+-- directives.
+abbrev pub IsOutside : List ℕ → Type 0
+IsOutside text = (4194304 < length text) ⊎ IsNotBuilt (erased text)
+
+-- The answer to a text: S0 with line 1 where it isn't of the part of the language that is built, and else what its run without its
+-- directives gives.
 pub data IsTextAnswer (limits : Limits) (text : List ℕ) (a : Answer) : Type 0 where
-  Refused : IsNotBuilt text → a ≡ record { out = []; report = static_line names.NotBuilt 1; status = 3 } → IsTextAnswer limits text a
-  Ended : (p : Program) → length text ≤ 4194304 → Spells text p → IsRunAnswer limits p a → IsTextAnswer limits text a
+  Refused : IsOutside text → a ≡ record { out = []; report = static_line names.NotBuilt 1; status = 3 } → IsTextAnswer limits text a
+  Ended : (p : Program) → length text ≤ 4194304 → Spells (erased text) p → IsRunAnswer limits p a → IsTextAnswer limits text a
 
 -- The answer to words, where the file that they name has this text.
 pub data IsAnswer (words : List (List ℕ)) (text : List ℕ) (a : Answer) : Type 0 where

@@ -1,17 +1,19 @@
 //! Main's run in the flat memory.
-ghost use Rattle.std.specs.Prelude.{◌≡◌, ◌<◌, ◌≤◌, ℕ, ℤ, List, Option, Some, IfSome, IfNone};
+ghost use Rattle.std.specs.Prelude.{◌≡◌, ◌+◌, ◌<◌, ◌≤◌, ℕ, ℤ, List, length, Option, Some, slice_get, IfSome, IfNone};
 ghost use Rattle.css_base.specs.declared.ending.Ending.{Ending};
 ghost use Rattle.css_base.specs.declared.ending.Who.TheVariants.{Main};
+ghost use Rattle.css_semantics.specs.declared.TheConstants.{STACK_LIMIT};
 ghost use Rattle.css_semantics.specs.Dialogue.{Outcome, output, tape_of};
-ghost use Rattle.css_semantics.specs.Flat.{stack_limit};
+ghost use Rattle.css_semantics.specs.Memory.{first_global, stack_place};
 ghost use Rattle.css_semantics.specs.Units.{with_units};
-ghost use Rattle.css_vm.specs.Code.{routine};
+ghost use Rattle.css_vm.specs.Code.{Routine, routine, code_of, first_line};
 ghost use Rattle.css_vm.specs.Cells.{int_of};
 ghost use Rattle.css_vm.specs.Soundness.{Spot, IsSound, Fits};
-ghost use Rattle.css_vm.specs.Events.{Falls};
+ghost use Rattle.css_vm.specs.Events.{IsStacked};
+ghost use Rattle.css_small_code.specs.Marks.{HasNoMarks};
 ghost use Rattle.cssrun.specs.Answer.{ending_of};
 ghost use Rattle.cssrun.specs.Ends.{change};
-ghost use Rattle.cssrun.specs.Running.{ComesTo, GoesOn, EndsRun};
+ghost use Rattle.cssrun.specs.Running.{ComesTo, GoesOn, EndsRun, left_with, reply_to_leaving};
 ghost use Rattle.cssrun.specs.Ran.{RanAs};
 
 use crate::pending::Pending;
@@ -19,7 +21,7 @@ use css_base::{Ending, IntType, Line, Stop, Who};
 use css_io::Sink;
 use css_mem::MainMemory;
 use css_num::convert;
-use css_vm::{Event, Function, Machine};
+use css_vm::{Code, Event, Function, Machine, Space};
 use std::alloc::Global;
 
 /// How main's run ends.
@@ -33,30 +35,36 @@ pub enum Ran {
     NoMemory,
 }
 
-/// Runs main in a flat memory of so many bytes, at least 1,064,960, and with so many units, and passes its output to the sink, in
-/// pieces of at most 65,536 bytes. What main wrote before a fault or a rule is passed on too.
+/// Runs main of code without marks in a flat memory of so many bytes, at least 1,069,056, and with so many units, and passes its
+/// output to the sink, in pieces of at most 65,536 bytes. What main wrote before a fault or a rule is passed on too. `NoMemory` also
+/// where 2^64 - 1 outputs come before the next unit is taken.
 pub fn run_main<O: Sink>(
     alloc: Global,
-    code: &Function,
+    code: &Code,
     memory: u32,
     mut units: u64,
     out: &mut O,
 ) -> Ran
-    requires sound { (plan : List Spot) × IsSound (routine code.now) plan }
-    requires memory { stack_limit ≤ memory }
-    ensures { (o : Outcome ℤ) (ending : Ending) → ComesTo memory units (routine code.now) o → ending_of o ≡ Some ending
+    requires sound { (plans : List (List Spot)) × IsSound (code_of code.now) plans }
+    requires no_marks { HasNoMarks (code_of code.now) }
+    requires memory { first_global + STACK_LIMIT ≤ memory }
+    ensures { (o : Outcome ℤ) (ending : Ending) → ComesTo memory units (code_of code.now) o → ending_of o ≡ Some ending
         → RanAs ending (output (tape_of o)) (change O.written O.faults out.old out.new) result }
 {
     let Ok(mut pending) = Pending::new(alloc) else {
         return Ran::NoMemory;
     };
-    let Ok(mut space) = MainMemory::new(alloc, memory) else {
+    let Ok(mut space) = MainMemory::new(alloc, memory, true) else {
         return Ran::NoMemory;
     };
-    let mut machine = Machine::new(alloc);
+    let line = first_line(main_of(code));
+    let Ok(mut machine) = Machine::new(alloc, code, code.main, &[], line) else {
+        return Ran::NoMemory;
+    };
     loop {
         if let Some(ran) = run_on(
             &mut machine,
+            alloc,
             code,
             &mut space,
             &mut units,
@@ -71,47 +79,55 @@ pub fn run_main<O: Sink>(
 // Runs from event to event until one comes after a unit was taken. Some where main's run has ended.
 fn run_on<O: Sink>(
     machine: &mut Machine,
-    code: &Function,
+    alloc: Global,
+    code: &Code,
     space: &mut MainMemory,
     units: &mut u64,
     pending: &mut Pending,
     out: &mut O,
 ) -> Option<Ran>
-    requires { Fits (routine code.now) machine.old }
-    ensures goes_on { IfNone result (GoesOn (routine code.now) machine.old (with_units space.old units.old) machine.new (with_units space.new units.new)
+    requires no_marks { HasNoMarks (code_of code.now) }
+    requires fits { Fits (code_of code.now) machine.old }
+    requires stacked { IsStacked (code_of code.now) (stack_place space.old) machine.old }
+    ensures goes_on { IfNone result (GoesOn (code_of code.now) machine.old (with_units space.old units.old) machine.new (with_units space.new units.new)
         pending.old pending.new (change O.written O.faults out.old out.new)) }
-    ensures fits { IfNone result (Fits (routine code.now) machine.new) }
+    ensures fits { IfNone result (Fits (code_of code.now) machine.new) }
+    ensures stacked { IfNone result (IsStacked (code_of code.now) (stack_place space.new) machine.new) }
     ensures fewer { IfNone result (units.new < units.old) }
-    ensures ends { IfSome result (EndsRun (routine code.now) machine.old (with_units space.old units.old) pending.old (change O.written O.faults out.old out.new)) }
+    ensures ends { IfSome result (EndsRun (code_of code.now) machine.old (with_units space.old units.old) pending.old (change O.written O.faults out.old out.new)) }
 {
     let before = *units;
     for _ in 0..u64::MAX {
-        if let Some(ran) = turn(machine, code, space, units, pending, out) {
+        if let Some(ran) = turn(machine, alloc, code, space, units, pending, out) {
             return Some(ran);
         }
         if *units < before {
             return None;
         }
     }
-    unreachable!()
+    Some(Ran::NoMemory)
 }
 
 // Runs to the next event and does what it asks. Some where main's run has ended.
 fn turn<O: Sink>(
     machine: &mut Machine,
-    code: &Function,
+    alloc: Global,
+    code: &Code,
     space: &mut MainMemory,
     units: &mut u64,
     pending: &mut Pending,
     out: &mut O,
 ) -> Option<Ran>
-    requires { Fits (routine code.now) machine.old }
-    ensures goes_on { IfNone result (GoesOn (routine code.now) machine.old (with_units space.old units.old) machine.new (with_units space.new units.new)
+    requires no_marks { HasNoMarks (code_of code.now) }
+    requires fits { Fits (code_of code.now) machine.old }
+    requires stacked { IsStacked (code_of code.now) (stack_place space.old) machine.old }
+    ensures goes_on { IfNone result (GoesOn (code_of code.now) machine.old (with_units space.old units.old) machine.new (with_units space.new units.new)
         pending.old pending.new (change O.written O.faults out.old out.new)) }
-    ensures falls { IfNone result (Falls (routine code.now) machine.old units.old machine.new units.new) }
-    ensures ends { IfSome result (EndsRun (routine code.now) machine.old (with_units space.old units.old) pending.old (change O.written O.faults out.old out.new)) }
+    ensures fits { IfNone result (Fits (code_of code.now) machine.new) }
+    ensures stacked { IfNone result (IsStacked (code_of code.now) (stack_place space.new) machine.new) }
+    ensures ends { IfSome result (EndsRun (code_of code.now) machine.old (with_units space.old units.old) pending.old (change O.written O.faults out.old out.new)) }
 {
-    let Ok(event) = machine.run_to_event(code, space, units) else {
+    let Ok(event) = machine.run_to_event(alloc, code, space, units) else {
         return Some(Ran::NoMemory);
     };
     match event {
@@ -123,16 +139,33 @@ fn turn<O: Sink>(
             machine.answer(bytes.len() as u64);
             None
         }
-        Event::Ended(value, _) => Some(returned(value, pending, out)),
+        Event::Mark(..) => {
+            // It asks whether tasks are made.
+            machine.answer(0);
+            None
+        }
+        Event::Submit(_) => unreachable!(),
+        Event::Ended(value, line) => Some(returned(value, line, code, space, pending, out)),
         Event::Stopped(stop, line) => Some(stopped(stop, line, pending, out)),
     }
 }
 
-// Ends with a cell as main's result.
-fn returned<O: Sink>(value: u64, pending: &mut Pending, out: &mut O) -> Ran
-    ensures { RanAs (Ending.Result (int_of value)) pending.old (change O.written O.faults out.old out.new) result }
+// Leaves main's frame, and ends with a cell as main's result.
+fn returned<O: Sink>(
+    value: u64,
+    line: Line,
+    code: &Code,
+    space: &mut MainMemory,
+    pending: &mut Pending,
+    out: &mut O,
+) -> Ran
+    requires { (f : Routine) × (slice_get (code_of code.now).functions code.now.main ≡ Some f) }
+    ensures { RanAs (left_with (reply_to_leaving (code_of code.now) space.old) value line) pending.old (change O.written O.faults out.old out.new) result }
 {
-    end(Ending::Result(result_of(value)), pending, out)
+    match space.pop_frame(main_of(code).frame) {
+        Ok(()) => end(Ending::Result(result_of(value)), pending, out),
+        Err(stop) => stopped(stop, line, pending, out),
+    }
 }
 
 // Ends with main's stop in a line.
@@ -158,4 +191,20 @@ fn result_of(value: u64) -> i32
     ensures { result ≡ int_of value }
 {
     convert(i128::from(value), IntType::Int) as i32
+}
+
+// The function that is main.
+fn main_of(code: &Code) -> &Function
+    requires { (f : Routine) × (slice_get (code_of code.now).functions code.now.main ≡ Some f) }
+    ensures { slice_get (code_of code.now).functions code.now.main ≡ Some (routine result.now) }
+{
+    &code.functions[code.main as usize]
+}
+
+// The line of a function's first instruction.
+fn first_line(function: &Function) -> Line
+    requires { 0 < length function.now.body.items }
+    ensures { result ≡ first_line (routine function.now).body }
+{
+    function.body[0].line
 }

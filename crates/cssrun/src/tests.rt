@@ -209,6 +209,67 @@ fn control_goes_on(rt: HostRuntime) -> Result<(), Fail> {
     Ok(())
 }
 
+/// Calls `inc` of a variable that is 4, in its line 6, and writes the digit that the variable is then.
+const INCREMENTS: &str =
+    "#pragma css task inout(p)\nvoid inc(int *p) { p[0] = p[0] + 1; }\nint main(void) {\n  int x = 4;\n  #pragma css start\n  inc(&x);\n  #pragma css barrier\n  putchar(48 + x);\n  #pragma css finish\n  return 0;\n}\n";
+
+/// The same where `inc` writes behind the variable, into the padding of its place.
+const WRITES_PADDING: &str =
+    "#pragma css task inout(p)\nvoid inc(int *p) { p[1] = p[0] + 1; }\nint main(void) {\n  int x = 4;\n  #pragma css start\n  inc(&x);\n  putchar(48 + x);\n  return 0;\n}\n";
+
+const WRITES_OUTSIDE: &str =
+    "#pragma css task inout(p)\nvoid inc(int *p) { p[9999999] = 1; }\nint main(void) {\n  int x = 4;\n  inc(&x);\n  putchar(48 + x);\n  return 0;\n}\n";
+
+/// Calls a task in line 6 in each of three turns.
+const CALLS_THRICE: &str =
+    "#pragma css task inout(p)\nvoid inc(int *p) { p[0] = p[0] + 1; }\nint main(void) {\n  int x = 0;\n  while (x < 3) {\n    inc(&x);\n  }\n  return x;\n}\n";
+
+/// Where the directives are erased, a task's call is a plain call.
+#[test]
+fn tasks_are_functions(rt: HostRuntime) -> Result<(), Fail> {
+    let spliced =
+        "int main(void) {\n  # /* so */ pragma css \\\n start // from here\n  putchar(97);\n  return 0;\n}";
+    let rows = [
+        (INCREMENTS, "5", "result 0\n", 0),
+        (WRITES_PADDING, "4", "result 0\n", 0),
+        (WRITES_OUTSIDE, "", "fault OutsideMemory line 2 main\n", 4),
+        (CALLS_THRICE, "", "result 3\n", 1),
+        (spliced, "a", "result 0\n", 0),
+        (
+            "#include <stdio.h>\nint main(void) { }",
+            "",
+            "static S0 NotBuilt line 1\n",
+            3,
+        ),
+    ];
+    for (text, out, report, status) in rows {
+        let words = ["cssrun", "erased", "f.c"];
+        let called = call(&rt, &words, ("f.c", text.as_bytes()), &NOTHING_FAILS)?;
+        expect(&rt, &called, out, report, status);
+    }
+    Ok(())
+}
+
+/// Main's entry, two turns and one call take 4 units, so that none is left for the second call.
+#[test]
+fn calls_take_units(rt: HostRuntime) -> Result<(), Fail> {
+    let rows = [
+        ("4", "rule X15 Units line 6 main\n", 5),
+        ("7", "result 3\n", 1),
+    ];
+    for (units, report, status) in rows {
+        let words = ["cssrun", "erased", "--main-units", units, "f.c"];
+        let called = call(
+            &rt,
+            &words,
+            ("f.c", CALLS_THRICE.as_bytes()),
+            &NOTHING_FAILS,
+        )?;
+        expect(&rt, &called, "", report, status);
+    }
+    Ok(())
+}
+
 /// Runs a program's main with so many units, and sees what it writes and how it ends.
 fn expect_ending(
     rt: &(impl Abort + AllocGlobal),

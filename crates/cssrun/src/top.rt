@@ -3,10 +3,10 @@ ghost use Rattle.std.specs.Prelude.{◌≡◌, ◌<◌, ◌≤◌, ◌⊎◌, �
 ghost use Rattle.css_base.specs.Limits.{IsInRange};
 ghost use Rattle.css_io.specs.Outside.{Rose};
 ghost use Rattle.css_small.specs.Tree.{program};
-ghost use Rattle.css_small.specs.Grammar.{Spells, IsNotBuilt};
 ghost use Rattle.css_small.specs.Numbers.{HasNumbers};
+ghost use Rattle.css_small_code.specs.Marks.{HasNoDirectives};
 ghost use Rattle.css_words.specs.declared.request.Request.{Request};
-ghost use Rattle.cssrun.specs.Answer.{Answer, IsAnswer, IsTextAnswer, IsRunAnswer, words_refused, read_fault, no_memory, static_line, ending_line, ending_status};
+ghost use Rattle.cssrun.specs.Answer.{Answer, IsOutside, IsAnswer, IsTextAnswer, IsRunAnswer, words_refused, read_fault, no_memory, static_line, ending_line, ending_status};
 ghost use Rattle.cssrun.specs.Request.{Asks, AreRefused};
 ghost use Rattle.cssrun.specs.Ends.{Change, change, HasFailed, Got, Ends, Finishes, IsText, IsWhole, IsCutShort, IsStarved, IsSmooth, ShelfFailed, PlainEnds};
 
@@ -15,8 +15,9 @@ use crate::ending::{ending_status, ending_text, static_text};
 use crate::finish::{NO_MEMORY, READ_FAULT, WORDS_REFUSED, WRITE_FAULT_STATUS, finish};
 use crate::laws::one_answer;
 use crate::run::{Ran, run_main};
-use css_base::{Ending, FrontFault, Limits, StaticFault, Words};
+use css_base::{Ending, FrontFault, Limits, Line, StaticFault, StaticName, Words};
 use css_io::{Shelf, ShelfFault, Sink, Source};
+use css_lex::erase;
 use css_small::{Program, numbers_fit, one_program, read_program};
 use css_small_code::{enough_fuel, make_code, more_fuel};
 use css_words::{Request, WordsFault, read_words};
@@ -58,8 +59,8 @@ pub fn plain_top<S: Shelf, I: Source, O: Sink, R: Sink>(
         × Got (change R.written R.faults report.old report.new) read_fault }
 
     // 3 comes exactly where the text isn't of the part of the language that is built.
-    ensures refusal { result ≡ 3 → (text : List ℕ) × IsText words.now (S.file shelf.old) text × IsNotBuilt text }
-    ensures refusal_only { (request : Request) (text : List ℕ) → Asks words.now request → S.file shelf.old request.file ≡ Some text → IsNotBuilt text
+    ensures refusal { result ≡ 3 → (text : List ℕ) × IsText words.now (S.file shelf.old) text × IsOutside text }
+    ensures refusal_only { (request : Request) (text : List ℕ) → Asks words.now request → S.file shelf.old request.file ≡ Some text → IsOutside text
         → (result ≡ 3) ⊎ (6 ≤ result) }
 
     // A status below 6 is the answer's, with exactly the answer's bytes.
@@ -133,7 +134,7 @@ fn erased<S: Shelf, O: Sink, R: Sink>(
     }
 }
 
-// Runs the program of a text, of which no more than one byte past the limit need be there.
+// Runs the program of a text without its directives. Of the text no more than one byte past the limit need be there.
 fn run_text<O: Sink, R: Sink>(
     alloc: Global,
     text: &[u8],
@@ -144,7 +145,13 @@ fn run_text<O: Sink, R: Sink>(
     requires { IsInRange limits }
     ensures { Ends (IsTextAnswer limits text.now) (change O.written O.faults out.old out.new) (change R.written R.faults report.old report.new) result }
 {
-    match read_program(alloc, text) {
+    if text.len() > TEXT_LIMIT {
+        return refuse(alloc, &not_built(), report);
+    }
+    let Ok(left) = erase(alloc, text) else {
+        return finish(report, NO_MEMORY, NO_MEMORY_STATUS);
+    };
+    match read_program(alloc, left.as_slice()) {
         Ok(tree) => {
             // The text's answer is that of this program, since the text spells no other.
             one_program();
@@ -153,6 +160,17 @@ fn run_text<O: Sink, R: Sink>(
         }
         Err(FrontFault::Static(fault)) => refuse(alloc, &fault, report),
         Err(FrontFault::NoMemory) => finish(report, NO_MEMORY, NO_MEMORY_STATUS),
+    }
+}
+
+// S0 with line 1.
+fn not_built() -> StaticFault
+    ensures name { result.name ≡ StaticName.NotBuilt }
+    ensures line { result.line ≡ 1 }
+{
+    StaticFault {
+        name: StaticName::NotBuilt,
+        line: Line::new(1),
     }
 }
 
@@ -167,7 +185,7 @@ fn refuse<R: Sink>(alloc: Global, fault: &StaticFault, report: &mut R) -> u8
     }
 }
 
-// Compiles a program and runs it.
+// Compiles a program without directives and runs it.
 fn run_program<O: Sink, R: Sink>(
     alloc: Global,
     tree: &Program,
@@ -176,6 +194,7 @@ fn run_program<O: Sink, R: Sink>(
     report: &mut R,
 ) -> u8
     requires numbers { HasNumbers (program tree.now) }
+    requires no_directives { HasNoDirectives (program tree.now) }
     requires limits { IsInRange limits }
     ensures { Ends (IsRunAnswer limits (program tree.now)) (change O.written O.faults out.old out.new) (change R.written R.faults report.old report.new) result }
 {

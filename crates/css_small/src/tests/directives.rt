@@ -7,6 +7,9 @@ use css_base::{Line, Token, TokenKind};
 
 /// The tokens of a text.
 fn tokens_of(alloc: Global, text: &str) -> Result<Vec<Token>, Fail> {
+    if text.len() > 100_000 {
+        return Err(Fail::from("a long text"));
+    }
     match lex(alloc, text.as_bytes()) {
         Ok(tokens) => Ok(tokens),
         Err(_) => Err(Fail::from("no tokens")),

@@ -1,4 +1,4 @@
-use Rattle.css_small.proofs.Programs.{program_reads, program_spelled}
+use Rattle.css_small.proofs.Programs.{program_reads}
 use Rattle.css_small.proofs.Trees.{one_program_read}
 use Rattle.css_small.proofs.parser.one_tree.Goals as goal
 

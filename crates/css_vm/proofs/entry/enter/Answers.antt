@@ -1,4 +1,3 @@
-use Rattle.std.proofs.Common.{◌≡◌, ap, sym, ◌∙◌}
 use Rattle.std.proofs.lemmas.Result.{err_from_is_err_and}
 use Rattle.css_semantics.specs.Units.{with_units, metered, spending}
 use Rattle.css_vm.specs.Code.{routine}

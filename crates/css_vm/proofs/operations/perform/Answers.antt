@@ -2,7 +2,6 @@ use Rattle.std.proofs.Common.{◌≡◌, refl}
 use Rattle.std.proofs.lemmas.Result.{err_from_is_err_and}
 use Rattle.css_base.specs.declared.ending.Stop.TheVariants as stops
 use Rattle.css_base.specs.declared.ending.FaultKind.TheVariants.{DivideByZero}
-use Rattle.css_vm.specs.declared.code.Op.TheVariants as ops
 use Rattle.css_semantics.specs.Units.{with_units, metered, spending}
 use Rattle.css_vm.proofs.Requests.{halts_divs, halts_rems}
 use Rattle.css_vm.proofs.operations.perform.Goals as goal

@@ -1,6 +1,5 @@
-use Rattle.std.proofs.Common.{◌≡◌, ◌≤◌, ◌∷◌, length, map, sym, ◌∙◌, arith, ap}
+use Rattle.std.proofs.Common.{◌≡◌, ◌≤◌, length, sym, ◌∙◌, arith, ap}
 use Rattle.std.proofs.lemmas.List.{length-map}
-use Rattle.css_semantics.specs.Units.{with_units, metered, spending}
 use Rattle.css_vm.specs.Code.{routine, code_of}
 use Rattle.css_vm.specs.declared.code.Op.TheVariants as ops
 use Rattle.css_vm.specs.Spaces.{bytes_of}

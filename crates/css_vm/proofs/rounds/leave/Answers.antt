@@ -1,5 +1,4 @@
-use Rattle.std.proofs.Common.{◌≡◌, true≢false, refl, sym}
-use Rattle.css_semantics.specs.Units.{with_units, metered, spending}
+use Rattle.std.proofs.Common.{true≢false, refl, sym}
 use Rattle.css_vm.specs.Code.{routine, code_of}
 use Rattle.css_vm.proofs.Pauses.{comes_end, round_return, return_stops}
 use Rattle.css_vm.proofs.rounds.leave.Goals as goal

@@ -1,4 +1,4 @@
-use Rattle.std.proofs.Common.{◌≡◌, refl, ◌∙◌, arith}
+use Rattle.std.proofs.Common.{refl, ◌∙◌, arith}
 use Rattle.css_vm.specs.Code.{code_of}
 use Rattle.css_vm.proofs.Runs.{went_none, went_then, went_fits, went_comes}
 use Rattle.css_vm.proofs.rounds.run_to_entry.Goals as goal

@@ -1,5 +1,3 @@
-use Rattle.std.proofs.Common.{◌≡◌, ap, subst, sym, ◌∙◌}
-use Rattle.css_semantics.specs.Units.{with_units, metered, spending}
 use Rattle.css_vm.specs.declared.code.Op.TheVariants as ops
 use Rattle.css_vm.specs.Code.{code_of}
 use Rattle.css_vm.specs.Steps.{IsBefore}

@@ -1,7 +1,7 @@
-use Rattle.std.proofs.Common.{◌+◌, ◌≤◌, length, refl, ◌∙◌, arith}
+use Rattle.std.proofs.Common.{◌≤◌, length, ◌∙◌, arith}
 use Rattle.css_semantics.specs.Units.{with_units, metered, spending}
 use Rattle.css_vm.specs.Code.{routine}
-use Rattle.css_vm.proofs.Steps.{ran_none, ran_then, ran_placed, steps_within, ran_pauses}
+use Rattle.css_vm.proofs.Steps.{ran_then, ran_placed, steps_within, ran_pauses}
 use Rattle.css_vm.proofs.step.take_steps.Goals as goal
 
 pub take_step-requires : goal.take_step-requires

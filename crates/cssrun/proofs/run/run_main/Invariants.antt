@@ -1,9 +1,11 @@
 use Rattle.std.proofs.Common.{[]}
+use Rattle.css_semantics.specs.Memory.{stack_place}
 use Rattle.css_semantics.specs.Flat.{no_frames}
 use Rattle.css_semantics.specs.Units.{with_units}
-use Rattle.css_vm.specs.Code.{routine}
+use Rattle.css_vm.specs.Code.{code_of}
 use Rattle.css_vm.specs.Machine.{Begin}
 use Rattle.css_vm.specs.Soundness.{Fits}
+use Rattle.css_vm.specs.Events.{IsStacked}
 use Rattle.cssrun.specs.Ends.{change}
 use Rattle.cssrun.specs.Running.{GoesOn}
 use Rattle.cssrun.proofs.run.run_main.Given as goal
@@ -13,6 +15,7 @@ decreases-loop-ran g l = l.units
 
 abbrev pub invariant-loop-ran : goal.invariant-loop-ran
 invariant-loop-ran g l = record {
-  fits : Fits (routine l.code) l.machine;
-  goes_on : GoesOn (routine l.code) Begin (with_units (no_frames l.fn.memory) l.fn.units) l.machine (with_units l.space l.units) [] l.pending (change g.O.Sink.written g.O.Sink.faults l.fn.out l.out);
+  fits : Fits (code_of l.code) l.machine;
+  stacked : IsStacked (code_of l.code) (stack_place l.space) l.machine;
+  goes_on : GoesOn (code_of l.code) l.initial.machine (with_units (no_frames l.fn.memory) l.fn.units) l.machine (with_units l.space l.units) [] l.pending (change g.O.Sink.written g.O.Sink.faults l.fn.out l.out);
 }

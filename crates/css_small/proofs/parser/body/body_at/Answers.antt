@@ -1,4 +1,4 @@
-use Rattle.std.proofs.Common.{◌≡◌, ◌+◌, ◌<◌, ◌≤◌, length, ap, arith}
+use Rattle.std.proofs.Common.{ap, arith}
 use Rattle.css_base.specs.Tokens.{lexeme, lexemes}
 use Rattle.css_small.specs.Tree.{listed}
 use Rattle.css_small.proofs.Exits.{passed}

@@ -1,5 +1,4 @@
 use Rattle.std.proofs.Common.{arith}
-use Rattle.css_base.specs.Tokens.{lexemes}
 use Rattle.css_small.proofs.Exits.{passed}
 use Rattle.css_small.proofs.Items.{declared_name, initialised}
 use Rattle.css_small.proofs.parser.body.declaration.Goals as goal

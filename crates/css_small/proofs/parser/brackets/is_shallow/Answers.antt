@@ -1,7 +1,7 @@
-use Rattle.std.proofs.Common.{◌≡◌, ◌+◌, ◌≤◌, ◌<◌, refl, sym, ◌∙◌, subst, arith}
+use Rattle.std.proofs.Common.{◌+◌, ◌≤◌, ◌<◌, refl, ◌∙◌, subst, arith}
 use Rattle.std.proofs.lemmas.Bool.{false≢true}
 use Rattle.css_base.specs.Tokens.{lexemes}
-use Rattle.css_small.specs.Grammar.{kinds, open_behind}
+use Rattle.css_small.specs.Grammar.{kinds}
 use Rattle.css_small.proofs.Nesting.{open_more, one_shallow, all_shallow, too_deep, length-kinds}
 use Rattle.css_small.proofs.parser.brackets.is_shallow.Goals as goal
 

@@ -1,7 +1,7 @@
-use Rattle.std.proofs.Common.{◌≡◌, ◌+◌, ◌*◌, ◌<◌, ◌≤◌, List, [], ◌∷◌, ◌++◌, length, codes, Err, refl, sym, ap, ◌∙◌, subst, arith}
+use Rattle.std.proofs.Common.{◌≡◌, ◌+◌, ◌<◌, [], length, codes, sym, ap, ◌∙◌, subst, arith}
 use Rattle.std.proofs.lemmas.List.{length-map, nil_from_length}
 use Rattle.std.proofs.lemmas.Result.{IfOk-weaker}
-use Rattle.css_base.specs.Tokens.{Lexeme, lexeme, lexemes}
+use Rattle.css_base.specs.Tokens.{lexeme, lexemes}
 use Rattle.css_small.specs.Tree.{Element, Unary, expression, height}
 use Rattle.css_small.specs.Grammar.{kind_at}
 use Rattle.css_small.specs.Fronts.{Takes, marks}
@@ -9,7 +9,7 @@ use Rattle.css_small.specs.Readings.{leaf, Leaf, ReadsOperand, ReadsExpression}
 use Rattle.css_small.proofs.Exits.{passed}
 use Rattle.css_small.proofs.Enclosures.{one_takes, one_enclosed}
 use Rattle.css_small.proofs.Readings.{one_primary, one_expression}
-use Rattle.css_small.proofs.Heights.{next_shorter, takes_no_longer, operand_shorter, expression_shorter, height_first, height_positive}
+use Rattle.css_small.proofs.Heights.{next_shorter, takes_no_longer, operand_shorter, expression_shorter, height_first}
 use Rattle.css_small.proofs.Climbing.{Agrees, agrees_first, agrees_more, agrees_last, high_right, high_whole, operator_shorter, unaries_no_longer, applied, applied-append, height_applied, operand_from, operand_parts, primary_from, primary_parts, element_from, element_parts, leaf_from}
 use Rattle.css_small.proofs.parser.expressions.+expressions.Goals as goal
 

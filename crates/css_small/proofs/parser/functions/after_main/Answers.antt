@@ -1,7 +1,6 @@
 use Rattle.std.proofs.Common.{List, [], ◌∷◌, codes}
 use Rattle.css_base.specs.Tokens.{Kind, Word, Punctuator}
 use Rattle.css_small.specs.Fronts.{marks}
-use Rattle.css_small.specs.Readings.{main_declarator}
 use Rattle.css_small.proofs.Exits.{IfNone-weaker}
 use Rattle.css_small.proofs.Enclosures.{takes_front, takes_behind}
 use Rattle.css_small.proofs.Functions.{behind_next}

@@ -1,4 +1,4 @@
-use Rattle.std.proofs.Common.{ℕ, List, [], ◌∷◌, codes}
+use Rattle.std.proofs.Common.{◌∷◌, codes}
 use Rattle.css_base.specs.Tokens.{Word}
 use Rattle.css_small.specs.Readings.{parameter_list}
 use Rattle.css_small.proofs.Functions.{behind_next}

@@ -1,4 +1,4 @@
-use Rattle.std.proofs.Common.{◌≡◌, ◌+◌, ◌<◌, ◌≤◌, [], sym, ap, ◌∙◌, subst, arith}
+use Rattle.std.proofs.Common.{sym, ap, ◌∙◌, subst, arith}
 use Rattle.css_base.specs.Tokens.{lexemes}
 use Rattle.css_small.specs.Readings.{in_function, ReadsBody}
 use Rattle.css_small.proofs.Exits.{passed}

@@ -1,10 +1,9 @@
-use Rattle.std.proofs.Common.{◌≡◌, ◌+◌, ◌<◌, ◌≤◌, [], length, sym, ap, ◌∙◌, subst, arith}
+use Rattle.std.proofs.Common.{[], length, sym, ap, ◌∙◌, subst, arith}
 use Rattle.std.proofs.lemmas.Bool.{both_ways, eq-eqb}
 use Rattle.std.proofs.lemmas.List.{length-map}
 use Rattle.css_base.specs.Tokens.{lexeme, lexemes}
-use Rattle.css_small.specs.Tree.{listed, Function}
-use Rattle.css_small.specs.Grammar.{Names}
-use Rattle.css_small.specs.Readings.{main_declarator, in_main, ReadsBody, ReadsMain}
+use Rattle.css_small.specs.Tree.{listed}
+use Rattle.css_small.specs.Readings.{main_declarator, in_main, ReadsBody}
 use Rattle.css_small.proofs.Exits.{passed}
 use Rattle.css_small.proofs.Enclosures.{one_takes}
 use Rattle.css_small.proofs.Trees.{one_body}

@@ -1,4 +1,4 @@
-use Rattle.std.proofs.Common.{◌≡◌, [], sym, ap, ◌∙◌, subst, map}
+use Rattle.std.proofs.Common.{[], subst, map}
 use Rattle.css_base.specs.Tokens.{lexemes}
 use Rattle.css_small.specs.Tree.{function}
 use Rattle.css_small.specs.Readings.{ReadsFunctions, ReadsMain}

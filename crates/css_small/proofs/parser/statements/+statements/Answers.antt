@@ -1,17 +1,17 @@
-use Rattle.std.proofs.Common.{◌≡◌, ◌+◌, ◌*◌, ◌<◌, ◌≤◌, max, List, [], ◌∷◌, ◌++◌, length, codes, Some, Err, refl, sym, ap, ◌∙◌, subst, arith}
+use Rattle.std.proofs.Common.{◌≡◌, ◌+◌, ◌<◌, ◌≤◌, max, length, codes, Some, refl, sym, ap, ◌∙◌, subst, arith}
 use Rattle.std.proofs.lemmas.List.{length-map}
 use Rattle.std.proofs.lemmas.Result.{IfOk-weaker}
-use Rattle.css_base.specs.Tokens.{Kind, Word, Lexeme, lexeme, lexemes}
-use Rattle.css_small.specs.Tree.{Statement, Statements, Block, statement, listed, height, height_of_statement, height_of_statements}
+use Rattle.css_base.specs.Tokens.{Word, lexeme, lexemes}
+use Rattle.css_small.specs.Tree.{Block, statement, listed, height_of_statement, height_of_statements}
 use Rattle.css_small.specs.Fronts.{Next, marks}
 use Rattle.css_small.specs.declared.parser.statements.Form.TheVariants as forms
-use Rattle.css_small.specs.Readings.{ReadsForm, ReadsInner, ReadsStatement, ReadsStatements}
+use Rattle.css_small.specs.Readings.{ReadsForm, ReadsInner, ReadsStatements}
 use Rattle.css_small.proofs.Exits.{passed}
 use Rattle.css_small.proofs.FormReadings.{statement_positive, no_directive, is_mark, as_form, from_form, block_parts, while_parts, if_parts, enclosed_no_longer, statement_shorter, guarded_shorter}
 use Rattle.css_small.proofs.Heights.{next_shorter}
 use Rattle.css_small.proofs.Enclosures.{one_enclosed}
 use Rattle.css_small.proofs.Trees.{one_guarded}
-use Rattle.css_small.proofs.Rows.{statement-Block, with_last, listed-append, height-with_last, one_more_statement, statements_left, first_left}
+use Rattle.css_small.proofs.Rows.{statement-Block, listed-append, height-with_last, one_more_statement, statements_left, first_left}
 use Rattle.css_small.proofs.parser.statements.+statements.Goals as goal
 
 pub block-returns-in-Some-clause-ok : goal.block-returns-in-Some-clause-ok

@@ -1,4 +1,4 @@
-use Rattle.std.proofs.Common.{◌+◌, ◌*◌, ◌<◌, ◌≤◌, length}
+use Rattle.std.proofs.Common.{◌+◌, ◌*◌, ◌≤◌, length}
 use Rattle.css_base.specs.Tokens.{lexemes}
 use Rattle.css_small.specs.Tree.{listed, height_of_statements}
 use Rattle.css_small.specs.Readings.{ReadsStatements}

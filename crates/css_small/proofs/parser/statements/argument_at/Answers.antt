@@ -1,4 +1,4 @@
-use Rattle.std.proofs.Common.{codes, sym, subst}
+use Rattle.std.proofs.Common.{codes, subst}
 use Rattle.css_base.specs.Tokens.{Word, lexemes}
 use Rattle.css_small.specs.Fronts.{Next, Takes, marks}
 use Rattle.css_small.proofs.Enclosures.{one_takes}

@@ -1,5 +1,4 @@
-use Rattle.std.proofs.Common.{◌≡◌, ◌+◌, ◌<◌, arith}
-use Rattle.css_small.specs.Tree.{height}
+use Rattle.std.proofs.Common.{arith}
 use Rattle.css_small.proofs.Exits.{passed}
 use Rattle.css_small.proofs.parser.statements.assignment.Goals as goal
 

@@ -1,5 +1,4 @@
-use Rattle.std.proofs.Common.{◌≡◌, ◌+◌, ◌<◌, max, codes, sym, subst, arith}
-use Rattle.css_small.specs.Tree.{height}
+use Rattle.std.proofs.Common.{codes, subst, arith}
 use Rattle.css_small.specs.Fronts.{marks}
 use Rattle.css_small.specs.Readings.{ReadsEnclosed}
 use Rattle.css_small.proofs.Exits.{passed}

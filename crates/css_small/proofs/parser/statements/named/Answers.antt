@@ -1,6 +1,6 @@
-use Rattle.std.proofs.Common.{◌≡◌, ◌+◌, ◌<◌, max, codes, sym, ap, ◌∙◌, subst, arith}
+use Rattle.std.proofs.Common.{◌≡◌, sym, ap, ◌∙◌, subst, arith}
 use Rattle.css_base.specs.Tokens.{Word, kind_of, lexemes}
-use Rattle.css_small.specs.Tree.{height, height_of_statement}
+use Rattle.css_small.specs.Tree.{height_of_statement}
 use Rattle.css_small.specs.declared.parser.statements.Form.TheVariants as forms
 use Rattle.css_small.specs.Readings.{ReadsForm}
 use Rattle.css_small.proofs.Exits.{at_some, not_some}

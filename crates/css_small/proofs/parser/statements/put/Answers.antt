@@ -1,6 +1,5 @@
-use Rattle.std.proofs.Common.{◌≡◌, ◌∙◌, Some, position, bytes_eq, sym, ap, arith}
-use Rattle.css_base.specs.Tokens.{Word, kind_of}
-use Rattle.css_small.specs.Tree.{height, height_of_statement}
+use Rattle.std.proofs.Common.{ap, arith}
+use Rattle.css_small.specs.Tree.{height_of_statement}
 use Rattle.css_small.proofs.Exits.{passed}
 use Rattle.css_small.proofs.FormReadings.{put_parts}
 use Rattle.css_small.proofs.parser.statements.put.Goals as goal

@@ -1,6 +1,6 @@
-use Rattle.std.proofs.Common.{◌≡◌, ◌≤◌, length, reverse, take, ap, sym, ◌∙◌, arith}
+use Rattle.std.proofs.Common.{◌≡◌, ◌≤◌, length, reverse, ap, arith}
 use Rattle.std.proofs.lemmas.List.{length-take-le}
-use Rattle.css_vm.specs.Stacks.{Parted, StandWithin}
+use Rattle.css_vm.specs.Stacks.{Parted}
 use Rattle.css_vm.proofs.Stacks.{within_more}
 use Rattle.css_vm.proofs.activations.Activations.begin.Goals as goal
 

@@ -1,7 +1,6 @@
-use Rattle.std.proofs.Common.{◌≡◌, true≢false, ◌+◌, ◌==◌, ℕ, zero, suc, Bool, vec_len, IsTrue, refl, length, reverse, ap, sym, ◌∙◌, arith, nat_eq}
+use Rattle.std.proofs.Common.{◌≡◌, true≢false, ◌==◌, ℕ, zero, suc, Bool, vec_len, IsTrue, refl, length, reverse, ap, sym, ◌∙◌, arith}
 use Rattle.std.proofs.Math.Dec.{eqb-suc-zero}
 use Rattle.std.proofs.lemmas.List.{length-reverse}
-use Rattle.css_vm.specs.Machine.{State}
 use Rattle.css_vm.specs.States.{depth}
 use Rattle.css_vm.proofs.Stacks.{callers_count}
 use Rattle.css_vm.proofs.activations.Activations.is_first.Goals as goal

@@ -1,10 +1,8 @@
-use Rattle.std.proofs.Common.{◌≡◌, ℕ, length, reverse, Some, slice_get, sym, subst}
-use Rattle.css_semantics.specs.Units.{with_units, metered, spending}
+use Rattle.std.proofs.Common.{reverse, sym, subst}
 use Rattle.css_vm.specs.Code.{routine, code_of}
-use Rattle.css_vm.specs.Machine.{At}
 use Rattle.css_vm.specs.Soundness.{Fits}
 use Rattle.css_vm.specs.Events.{IsStacked}
-use Rattle.css_vm.specs.Stacks.{callers_of, running}
+use Rattle.css_vm.specs.Stacks.{callers_of}
 use Rattle.css_vm.proofs.Runs.{placed_at, comes_to_pause}
 use Rattle.css_vm.proofs.activations.Activations.run_to_pause.Goals as goal
 

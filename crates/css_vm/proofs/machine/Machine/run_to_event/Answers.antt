@@ -1,7 +1,7 @@
-use Rattle.std.proofs.Common.{◌≡◌, [], sym, subst}
+use Rattle.std.proofs.Common.{◌≡◌, sym, subst}
 use Rattle.std.proofs.lemmas.Result.{IfOk-weaker}
 use Rattle.css_vm.specs.Code.{code_of, routine}
-use Rattle.css_vm.specs.Machine.{State, Begin}
+use Rattle.css_vm.specs.Machine.{Begin}
 use Rattle.css_vm.specs.Soundness.{Fits}
 use Rattle.css_vm.specs.Steps.{Went}
 use Rattle.css_vm.proofs.Runs.{went_fits, went_comes}

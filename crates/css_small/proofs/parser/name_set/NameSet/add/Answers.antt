@@ -1,4 +1,4 @@
-use Rattle.std.proofs.Common.{◌≡◌, false, Result, Ok, Err, IfOk, is_err, Contains, refl, sym, ap, ◌∙◌, subst, ◌++◌, ◌∷◌, [], map}
+use Rattle.std.proofs.Common.{◌≡◌, false, Result, Ok, Err, IfOk, is_err, Contains, sym, ap, ◌∙◌, subst, ◌++◌, ◌∷◌, [], map}
 use Rattle.css_small.proofs.Keys.{insert_key-new}
 use Rattle.css_small.proofs.parser.name_set.NameSet.add.Goals as goal
 

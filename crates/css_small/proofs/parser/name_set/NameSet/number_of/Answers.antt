@@ -1,4 +1,4 @@
-use Rattle.std.proofs.Common.{sym, ap, ◌∙◌, position, bytes_eq}
+use Rattle.std.proofs.Common.{ap, ◌∙◌, position, bytes_eq}
 use Rattle.css_small.proofs.Keys.{position-names}
 use Rattle.css_small.proofs.parser.name_set.NameSet.number_of.Goals as goal
 
