@@ -1,7 +1,7 @@
 -- A task by itself: a memory of the bytes that it is given and of its own stack, judged by the rules on tasks.
-use Rattle.std.specs.Prelude.{ℕ, zero, suc, ◌+◌, ◌-◌, Bool, List, [], ◌∷◌, ◌++◌, length, take, drop, replicate, map, flat_map, slice_index, if◌then◌else◌}
+use Rattle.std.specs.Prelude.{ℕ, zero, suc, ◌+◌, ◌-◌, Bool, false, List, [], ◌∷◌, ◌++◌, length, take, drop, replicate, map, flat_map, slice_index, nat_le, ◌==◌, ◌&&◌, if◌then◌else◌}
 use Rattle.css_base.specs.declared.limits.Limits.{Limits}
-use Rattle.css_semantics.specs.Dialogue.{Action, Enter, Leave, Load, Store, Tape, Reply, Says, World}
+use Rattle.css_semantics.specs.Dialogue.{Action, Enter, Leave, Load, Store, Tape, Reply, Says, Fails, World}
 use Rattle.css_semantics.specs.Worlds.{world_of, state_after}
 use Rattle.css_semantics.specs.Memory.{big_endian, is_between, overlaid}
 use Rattle.css_semantics.specs.Tasks.{Window, Use, window_length, reads, writes, Body, entry_of, body_behind}
@@ -55,11 +55,21 @@ task_after m (Store address new) = record m {
 }
 task_after m _ = m
 
--- the reply to an action that no rule refuses
-abbrev pub task_reply : TaskMemory → Action → Reply
-task_reply m (Enter size) = Says (task_place m - size)
-task_reply m (Load address width) = Says (big_endian (task_bytes m address width))
-task_reply m _ = Says 0
+-- the innermost of these frames has so many bytes
+abbrev pub is_first : (size : ℕ) → (frames : List ℕ) → Bool
+is_first size [] = false
+is_first size (frame ∷ frames) = frame == size
+
+-- the innermost of these frames has so many bytes from this base on, and is the front of the stack
+abbrev pub is_innermost : TaskMemory → (frames : List ℕ) → (base size : ℕ) → Bool
+is_innermost m frames base size = (base + length m.stack == m.place) && (nat_le size (length m.stack) && is_first size frames)
+
+-- the reply to an action that no rule refuses, where these frames are open: only the innermost frame is left
+abbrev pub task_reply : TaskMemory → (frames : List ℕ) → Action → Reply
+task_reply m frames (Enter size) = Says (task_place m - size)
+task_reply m frames (Leave base size) = if is_innermost m frames base size then Says 0 else Fails
+task_reply m frames (Load address width) = Says (big_endian (task_bytes m address width))
+task_reply m frames _ = Says 0
 
 -- ---- what a task is given, and what it leaves
 
@@ -102,10 +112,15 @@ pub record Solitude : Type 0 where
   pub body : Body
 
 abbrev pub alone_reply : Limits → Solitude → Action → Reply
-alone_reply limits s action = judged_reply (first_broken (checks_of_task limits s.body action)) (task_reply s.memory action)
+alone_reply limits s action = judged_reply (first_broken (checks_of_task limits s.body action)) (task_reply s.memory s.body.frames action)
 
+abbrev pub alone_behind : Solitude → Action → Solitude
+alone_behind s action = record { memory = task_after s.memory action; body = body_behind s.body action }
+
+-- a leaving that fails changes nothing
 abbrev pub alone_after : Solitude → Action → Solitude
-alone_after s action = record { memory = task_after s.memory action; body = body_behind s.body action }
+alone_after s (Leave base size) = if is_innermost s.memory s.body.frames base size then alone_behind s (Leave base size) else s
+alone_after s action = alone_behind s action
 
 -- a task with these windows, inputs and stack place, before its entry
 abbrev pub at_entry : List Use → (inputs : List (List ℕ)) → (place : ℕ) → Solitude

@@ -9,3 +9,4 @@ pub mod Rules
 pub mod Clear
 pub mod Verdict
 pub mod Alone
+pub mod TaskSpaces
