@@ -5,6 +5,8 @@ mod call;
 mod image;
 mod layout;
 mod task_record;
+#[cfg(test)]
+mod tests;
 mod version;
 mod window;
 
