@@ -11,7 +11,7 @@ use Rattle.css_semantics.specs.Memory.{big_endian}
 use Rattle.css_semantics.specs.Rules.{task_stack, is_too_deep, is_in_frame}
 use Rattle.css_semantics.specs.Alone.{Region, TaskMemory, task_place, task_bytes, is_first, is_innermost}
 use Rattle.css_semantics.specs.TaskSpaces.{TaskState, place_of, holds, is_given, entry_reply, space_reply, total, IsClearOf, ArePartedRegions}
-use Rattle.css_semantics.proofs.TaskWorlds.{total-from}
+use Rattle.css_semantics.proofs.TaskWorlds.{total-from, left_total}
 use Rattle.css_semantics.proofs.TaskBytes.{all_at, part_clear, stack_bytes, region_bytes}
 
 abbrev pub kept : (end start innermost : ℕ) (stack sizes : List ℕ) → List Region → TaskState
@@ -23,6 +23,11 @@ kept end start innermost stack sizes regions = record {
 or_true : (b : Bool) → (b || true) ≡ true
 or_true true = refl
 or_true false = refl
+
+none_of_three : (a b : Bool) → (a && (b && false)) ≡ false
+none_of_three true true = refl
+none_of_three true false = refl
+none_of_three false b = refl
 
 any_at : (regions : List Region) (j : ℕ) (r : Region) (address size : ℕ) → slice_get regions j ≡ Some r → holds address size r ≡ true → list_any (holds address size) regions ≡ true
 any_at [] j r address size at has = absurd (cc)
@@ -85,3 +90,14 @@ module _ (end start innermost : ℕ) (stack sizes : List ℕ) (regions : List Re
   passes_calls size many =
       let deep : is_too_deep task_stack (drop innermost sizes) size ≡ true = grind (arith, nat_tests) in
       rw deep
+
+  -- the innermost frame is left exactly where it has so many bytes
+  pub leaves_frame : (size : ℕ) → is_first size (drop innermost sizes) ≡ true → is_innermost s.memory s.frames (place_of s) size ≡ true
+  leaves_frame size first =
+      let most = left_total (drop innermost sizes) size first in
+      let at : (place_of s + length (drop start stack) == end) ≡ true = eq-eqb _ _ (omega (arith, place_is, length-drop start stack, sum, long, room)) in
+      let within : nat_le size (length (drop start stack)) ≡ true = le-leb _ _ (omega (arith, most, length-drop start stack, sum, long)) in
+      rw (at, within, first)
+
+  pub keeps_frame : (size : ℕ) → is_first size (drop innermost sizes) ≡ false → is_innermost s.memory s.frames (place_of s) size ≡ false
+  keeps_frame size other = rw other (none_of_three (place_of s + length (drop start stack) == end) (nat_le size (length (drop start stack))))

@@ -193,7 +193,7 @@ holds_stored [] at new address size = refl
 holds_stored (r ∷ regions) at new address size = rw (length-overlaid r.base r.bytes at new, holds_stored regions at new address size)
 
 -- what is left of the frames
-left_total : (frames : List ℕ) (size : ℕ) → is_first size frames ≡ true → total frames ≡ size + total (drop 1 frames)
+pub left_total : (frames : List ℕ) (size : ℕ) → is_first size frames ≡ true → total frames ≡ size + total (drop 1 frames)
 left_total [] size first = absurd (cc)
 left_total (f ∷ frames) size first = omega (arith, eqb-true f size first, total-from (0 + f) frames)
 
