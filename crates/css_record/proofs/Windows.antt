@@ -1,7 +1,7 @@
 -- How many bytes a window has.
 use Rattle.std.proofs.Common.{◌≡◌, ℕ, zero, suc, ◌+◌, ◌-◌, ◌*◌, ◌^◌, ◌≤◌, arith}
 use Rattle.std.proofs.Math.Nat.{mul-le-mul_left, suc-mul}
-use Rattle.css_semantics.specs.Tasks.{Window, span, window_length}
+use Rattle.css_semantics.specs.Tasks.{Window, window_length}
 use Rattle.css_record.specs.Windows.{IsWindow}
 
 rows_in_span : (rows width stride : ℕ) → 1 ≤ rows → width ≤ stride → rows * width ≤ (rows - 1) * stride + width

@@ -1,11 +1,9 @@
 -- When a record of a task fits a code.
-use Rattle.std.specs.Prelude.{◌≡◌, ◌≤◌, ◌<◌, ◌-◌, ◌*◌, ◌^◌, ℕ, zero, suc, Bool, true, false, List, [], ◌∷◌, ◌++◌, length, map, filter, All, Option, Some, None, slice_get, if◌then◌else◌}
-use Rattle.std.specs.List.{list_any}
-use Rattle.css_base.specs.declared.direction.Direction.{Direction}
+use Rattle.std.specs.Prelude.{◌≡◌, ◌≤◌, ◌<◌, ◌-◌, ◌*◌, ◌^◌, ℕ, true, false, List, [], ◌∷◌, length, map, filter, All, Some, slice_get}
 use Rattle.css_record.specs.declared.task_record.TaskRecord.{TaskRecord}
 use Rattle.css_record.specs.Windows.{window, IsWindow}
 use Rattle.css_semantics.specs.Tasks.{Window, Use, plain, window_length, reads, writes}
-use Rattle.css_semantics.specs.Rules.{share_byte, overlap}
+use Rattle.css_semantics.specs.Rules.{share_byte}
 use Rattle.css_vm.specs.declared.code.ArgShape.{ArgShape}
 use Rattle.css_vm.specs.declared.code.ArgShape.TheVariants as shapes
 use Rattle.css_vm.specs.Code.{Routine, Shape, Code}

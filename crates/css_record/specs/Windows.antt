@@ -1,5 +1,5 @@
 -- Windows as the definitions of tasks have them.
-use Rattle.std.specs.Prelude.{◌≡◌, ◌≤◌, ◌^◌, ℕ}
+use Rattle.std.specs.Prelude.{◌≡◌, ◌≤◌, ◌^◌}
 use Rattle.css_record.specs.declared.window.Window as coded
 use Rattle.css_semantics.specs.Tasks.{Window, span}
 

@@ -1,12 +1,12 @@
 -- Bytes of a task's memory, whose windows' rows and stack share none: those of its stack, and those of one region.
-use Rattle.std.proofs.Common.{◌≡◌, ℕ, zero, suc, ◌+◌, ◌-◌, ◌≤◌, ◌<◌, Bool, true, false, ◌||◌, ◌&&◌, List, [], ◌∷◌, length, take, drop, set, map, fold, slice_index, slice_get, Some, nat_le, nat_lt, All, ◌⊎◌, inl, inr, refl, ap, sym, subst, ◌∙◌, arith, if◌then◌else◌}
+use Rattle.std.proofs.Common.{◌≡◌, ℕ, zero, suc, ◌+◌, ◌-◌, ◌≤◌, ◌<◌, Bool, true, false, ◌||◌, ◌&&◌, List, [], ◌∷◌, length, take, drop, set, map, slice_index, slice_get, Some, nat_le, All, ◌⊎◌, inl, inr, refl, ap, subst, arith}
 use Rattle.std.proofs.Math.Seq.{drop-cons}
 use Rattle.std.proofs.lemmas.Bool.{leb-true, and_parts}
 use Rattle.std.proofs.lemmas.Bool.Decides.{nat_tests}
 use Rattle.css_semantics.specs.Memory.{is_between, overlaid}
 use Rattle.css_semantics.specs.Rules.{is_in_frame}
-use Rattle.css_semantics.specs.Alone.{Region, TaskMemory, is_in_region, byte_of_regions, task_place, task_byte, task_bytes, overlaid_region}
-use Rattle.css_semantics.specs.TaskSpaces.{holds, total, IsClearOf, ArePartedRegions}
+use Rattle.css_semantics.specs.Alone.{Region, TaskMemory, is_in_region, byte_of_regions, task_place, task_bytes, overlaid_region}
+use Rattle.css_semantics.specs.TaskSpaces.{total, IsClearOf, ArePartedRegions}
 use Rattle.css_semantics.proofs.TaskWorlds.{total-from, all_head, all_tail}
 
 -- ---- regions that share no byte

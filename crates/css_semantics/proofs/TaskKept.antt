@@ -1,16 +1,16 @@
 -- A task's memory as code keeps it: its stack is what a list of 16,384 bytes has from an index on, and its frames what a list of their
 -- sizes has.
-use Rattle.std.proofs.Common.{◌≡◌, ℕ, zero, suc, ◌+◌, ◌-◌, ◌≤◌, Bool, true, false, ◌&&◌, ◌||◌, List, [], ◌∷◌, ◌++◌, length, take, drop, replicate, slice_get, Some, nat_le, nat_lt, All, refl, ap, sym, subst, ◌∙◌, arith, ◌==◌, if◌then◌else◌}
+use Rattle.std.proofs.Common.{◌≡◌, ℕ, zero, suc, ◌+◌, ◌-◌, ◌≤◌, Bool, true, false, ◌&&◌, ◌||◌, List, [], ◌∷◌, length, take, drop, slice_get, Some, nat_le, All, refl, ap, sym, ◌∙◌, arith, ◌==◌}
 use Rattle.std.specs.List.{list_any}
-use Rattle.std.proofs.lemmas.Bool.{leb-true, and_parts, and_from, le-leb, eq-eqb}
+use Rattle.std.proofs.lemmas.Bool.{leb-true, and_parts, le-leb, eq-eqb}
 use Rattle.std.proofs.lemmas.Bool.Decides.{nat_tests}
 use Rattle.std.proofs.lemmas.List.{length-drop, drop-drop}
 use Rattle.css_base.specs.declared.rule.Rule.TheVariants as rules
-use Rattle.css_semantics.specs.Dialogue.{Enter, Leave, Load, Store, Says, Fails, Refuses}
+use Rattle.css_semantics.specs.Dialogue.{Enter, Load, Says, Refuses}
 use Rattle.css_semantics.specs.Memory.{big_endian}
 use Rattle.css_semantics.specs.Rules.{task_stack, is_too_deep, is_in_frame}
-use Rattle.css_semantics.specs.Alone.{Region, TaskMemory, task_place, task_bytes, is_first, is_innermost}
-use Rattle.css_semantics.specs.TaskSpaces.{TaskState, place_of, holds, is_given, entry_reply, space_reply, total, IsClearOf, ArePartedRegions}
+use Rattle.css_semantics.specs.Alone.{Region, task_place, is_first, is_innermost}
+use Rattle.css_semantics.specs.TaskSpaces.{TaskState, place_of, holds, is_given, space_reply, total, IsClearOf, ArePartedRegions}
 use Rattle.css_semantics.proofs.TaskWorlds.{total-from, left_total}
 use Rattle.css_semantics.proofs.TaskBytes.{all_at, part_clear, stack_bytes, region_bytes}
 

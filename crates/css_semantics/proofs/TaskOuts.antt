@@ -1,7 +1,7 @@
 -- What a task leaves, where its windows are rows that are read and written: the bytes of its regions.
-use Rattle.std.proofs.Common.{◌≡◌, ℕ, zero, suc, ◌+◌, ◌-◌, ◌*◌, ◌≤◌, true, List, [], ◌∷◌, ◌++◌, length, take, drop, map, flat_map, slice_get, Some, All, zero-add, refl, ap, sym, ◌∙◌, arith, if◌then◌else◌}
+use Rattle.std.proofs.Common.{◌≡◌, ℕ, suc, ◌+◌, List, [], ◌∷◌, length, map, slice_get, Some, All, zero-add, refl, ap, sym, ◌∙◌, arith}
 use Rattle.std.proofs.lemmas.List.{take_all, append-nil}
-use Rattle.css_semantics.specs.Tasks.{Window, plain, Use, writes}
+use Rattle.css_semantics.specs.Tasks.{Window, plain, Use}
 use Rattle.css_semantics.specs.Alone.{Region, TaskMemory, task_place, task_bytes, bytes_left, outs}
 use Rattle.css_semantics.specs.TaskSpaces.{IsClearOf, ArePartedRegions}
 use Rattle.css_semantics.proofs.TaskWorlds.{all_head, all_tail, row_of}

@@ -1,12 +1,12 @@
 -- The stack place of a task's memory: entries and leavings move it by a frame's size, and nothing else moves it.
-use Rattle.std.proofs.Common.{◌≡◌, ℕ, ◌+◌, ◌-◌, ◌≤◌, List, length, replicate, drop, Bool, true, false, refl, ap, arith, ◌==◌, nat_le, ◌&&◌, if◌then◌else◌}
+use Rattle.std.proofs.Common.{◌≡◌, ℕ, ◌+◌, ◌-◌, ◌≤◌, List, length, replicate, Bool, true, false, refl, ap, arith, ◌==◌, nat_le, ◌&&◌, if◌then◌else◌}
 use Rattle.std.proofs.lemmas.List.{length-append, length-drop, length-replicate}
 use Rattle.std.proofs.lemmas.Bool.{and_parts, leb-true, eqb-true}
 use Rattle.css_base.specs.declared.rule.Rule.TheVariants as rules
 use Rattle.css_semantics.specs.Dialogue.{Enter, Leave, Load, Store, Says, Fails, Refuses}
 use Rattle.css_semantics.specs.Rules.{task_stack, is_too_deep}
 use Rattle.css_semantics.specs.Alone.{is_first, is_innermost}
-use Rattle.css_semantics.specs.TaskSpaces.{TaskState, place_of, entry_reply, space_reply, space_after}
+use Rattle.css_semantics.specs.TaskSpaces.{TaskState, place_of, space_reply, space_after}
 use Rattle.css_semantics.proofs.StackPlaces.{length-overlaid}
 
 -- what the reply to an entry is

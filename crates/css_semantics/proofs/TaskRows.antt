@@ -1,14 +1,14 @@
 -- What a task is given, where each window is one row that is read and written: one region for each window, and they share no byte.
-use Rattle.std.proofs.Common.{◌≡◌, ℕ, zero, suc, ◌+◌, ◌-◌, ◌*◌, ◌≤◌, ◌<◌, Bool, true, false, ◌||◌, ◌&&◌, List, [], ◌∷◌, ◌++◌, length, take, drop, map, nat_le, nat_lt, All, ◌⊎◌, inl, inr, refl, ap, sym, subst, ◌∙◌, arith, if◌then◌else◌}
+use Rattle.std.proofs.Common.{◌≡◌, ℕ, ◌+◌, ◌≤◌, ◌<◌, Bool, true, false, ◌||◌, ◌&&◌, List, [], ◌∷◌, length, map, nat_le, All, ◌⊎◌, inl, inr, refl, ◌∙◌, arith}
 use Rattle.std.specs.List.{list_any}
 use Rattle.std.proofs.lemmas.Bool.{cases_lt}
 use Rattle.std.proofs.lemmas.Bool.Decides.{nat_tests}
 use Rattle.std.proofs.lemmas.List.{take_all}
 use Rattle.css_base.specs.declared.direction.Direction.TheVariants as directions
 use Rattle.css_semantics.specs.Memory.{is_between}
-use Rattle.css_semantics.specs.Tasks.{Window, Use, reads, window_length, has_byte, rows_have}
+use Rattle.css_semantics.specs.Tasks.{Window, Use, window_length, has_byte}
 use Rattle.css_semantics.specs.Rules.{share_byte, is_in_window, is_in_row}
-use Rattle.css_semantics.specs.Alone.{Region, given_regions, regions_of, rows_as_regions, first_input}
+use Rattle.css_semantics.specs.Alone.{Region, given_regions, rows_as_regions}
 use Rattle.css_semantics.specs.TaskSpaces.{holds, IsClearOf, ArePartedRegions}
 use Rattle.css_semantics.proofs.Windows.{apart_gives}
 use Rattle.css_semantics.proofs.TaskWorlds.{all_head, all_tail, all_cons}
@@ -120,6 +120,7 @@ regions_parted [] [] rows apart lengths = tt
 regions_parted [] (bytes ∷ inputs) rows apart lengths = absurd (cc)
 regions_parted (u ∷ uses) [] rows apart lengths = absurd (cc)
 regions_parted (u ∷ uses) (bytes ∷ inputs) rows apart lengths =
-    let row = all_head IsRow u uses rows in
-    (clear_regions u (length bytes) uses inputs row (first_length u uses bytes inputs lengths ∙ row_length u row) (all_tail IsRow u uses rows) apart.0 (other_lengths u uses bytes inputs lengths),
-    regions_parted uses inputs (all_tail IsRow u uses rows) apart.1 (other_lengths u uses bytes inputs lengths))
+    let row = all_head IsRow u uses rows in (
+      clear_regions u (length bytes) uses inputs row (first_length u uses bytes inputs lengths ∙ row_length u row) (all_tail IsRow u uses rows) apart.0 (other_lengths u uses bytes inputs lengths),
+      regions_parted uses inputs (all_tail IsRow u uses rows) apart.1 (other_lengths u uses bytes inputs lengths),
+    )

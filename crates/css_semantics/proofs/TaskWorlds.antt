@@ -1,23 +1,23 @@
 -- The world of a task alone replies to a machine as the space of its memory and frames does, with a task's units.
-use Rattle.std.proofs.Common.{◌≡◌, ℕ, zero, suc, ◌+◌, ◌-◌, ◌*◌, ◌≤◌, Bool, true, false, not, ◌&&◌, ◌||◌, List, [], ◌∷◌, ◌++◌, length, take, drop, replicate, map, filter, fold, nat_le, nat_lt, nat_eq, ◌==◌, IsTrue, All, refl, ap, sym, subst, ◌∙◌, arith, add-zero, if◌then◌else◌}
+use Rattle.std.proofs.Common.{◌≡◌, ℕ, zero, suc, ◌+◌, ◌-◌, ◌≤◌, Bool, true, false, not, ◌&&◌, ◌||◌, List, [], ◌∷◌, length, drop, replicate, map, fold, nat_le, nat_lt, ◌==◌, IsTrue, All, refl, ap, sym, ◌∙◌, arith, add-zero, if◌then◌else◌}
 use Rattle.std.specs.List.{list_any}
-use Rattle.std.proofs.lemmas.Bool.{and_parts, leb-true, eqb-true, le-leb}
+use Rattle.std.proofs.lemmas.Bool.{and_parts, eqb-true, le-leb}
 use Rattle.std.proofs.lemmas.Bool.Decides.{nat_tests}
 use Rattle.std.proofs.lemmas.List.{length-append, length-replicate, length-drop, append-nil}
 use Rattle.css_base.specs.declared.direction.Direction.TheVariants as directions
 use Rattle.css_base.specs.declared.limits.Limits.{Limits}
 use Rattle.css_base.specs.declared.rule.Rule.TheVariants as rules
-use Rattle.css_semantics.specs.Dialogue.{Action, Enter, Turn, Leave, Load, Store, Out, Calls, Returns, Start, Finish, Barrier, Wait, Fault, End, Item, Tape, Reply, Says, Fails, Refuses}
+use Rattle.css_semantics.specs.Dialogue.{Action, Enter, Turn, Leave, Load, Store, Out, Calls, Returns, Start, Finish, Barrier, Wait, Fault, End, Tape, Says, Fails, Refuses}
 use Rattle.css_semantics.specs.Worlds.{state_after, is_of_machine, is_fault, AreOfMachine, Follows}
-use Rattle.css_semantics.specs.Memory.{all_from, big_endian, overlaid}
+use Rattle.css_semantics.specs.Memory.{all_from, big_endian}
 use Rattle.css_semantics.specs.Units.{Metered, with_units, within, metered, spending}
-use Rattle.css_semantics.specs.Tasks.{Window, plain, Use, Body, reads, writes, window_length, has_byte, frames_after}
+use Rattle.css_semantics.specs.Tasks.{Window, plain, Use, reads, writes, has_byte}
 use Rattle.css_semantics.specs.Pending.{some_from}
-use Rattle.css_semantics.specs.Rules.{Check, check, first_broken, judged_reply, checks_of_task, wants_unit, task_stack, is_too_deep, is_in_window, is_in_frame, is_given_for, is_unwritten, has_stored, all_of_window}
-use Rattle.css_semantics.specs.Alone.{Region, TaskMemory, Solitude, task_place, task_bytes, task_after, overlaid_region, is_first, is_innermost, task_reply, alone_reply, alone_behind, alone_after, at_entry, alone_world, given_regions, regions_of, first_input}
+use Rattle.css_semantics.specs.Rules.{check, first_broken, judged_reply, task_stack, is_too_deep, is_in_window, is_in_frame, is_given_for, is_unwritten, all_of_window}
+use Rattle.css_semantics.specs.Alone.{Region, Solitude, task_place, task_bytes, overlaid_region, is_first, is_innermost, alone_reply, alone_behind, alone_after, at_entry, alone_world}
 use Rattle.css_semantics.proofs.StackPlaces.{length-overlaid}
 use Rattle.css_semantics.proofs.Windows.{window_by}
-use Rattle.css_semantics.specs.TaskSpaces.{TaskState, place_of, holds, is_given, entry_reply, space_reply, space_behind, space_after, total}
+use Rattle.css_semantics.specs.TaskSpaces.{TaskState, holds, is_given, space_reply, space_behind, space_after, total}
 
 -- ---- sums of frames
 
@@ -78,7 +78,7 @@ pub record Stands (uses : List Use) (s : Solitude) : Type 0 where
 -- an entry or a turn, by whether it is too deep, and the units
 unit_reply : (deep room : Bool) (limit used x : ℕ) → (deep ≡ false → room ≡ true) → (left : ℕ) → limit - used ≡ left
     → judged_reply (first_broken (check rules.OutsideArguments false ∷ check rules.WroteInput false ∷ check rules.ReadUnwritten false ∷ check rules.LeftUnwritten false
-        ∷ check rules.TaskStack deep ∷ check rules.Units (nat_le limit used) ∷ [])) (Says x)
+    ∷ check rules.TaskStack deep ∷ check rules.Units (nat_le limit used) ∷ [])) (Says x)
     ≡ within left (if deep then Refuses rules.TaskStack else (if room then Says x else Fails))
 unit_reply true room limit used x fine zero left = refl
 unit_reply true room limit used x fine (suc n) left = refl
@@ -92,14 +92,14 @@ unit_reply false room limit used x fine (suc n) left =
 -- a load or a store, by whether it is outside
 access_reply : (given unread : Bool) (x : ℕ) → unread ≡ false
     → judged_reply (first_broken (check rules.OutsideArguments (not given) ∷ check rules.WroteInput false ∷ check rules.ReadUnwritten unread ∷ check rules.LeftUnwritten false
-        ∷ check rules.TaskStack false ∷ check rules.Units false ∷ [])) (Says x)
+    ∷ check rules.TaskStack false ∷ check rules.Units false ∷ [])) (Says x)
     ≡ (if given then Says x else Refuses rules.OutsideArguments)
 access_reply true unread x none = rw none
 access_reply false unread x none = refl
 
 store_reply : (given unwritten : Bool) → unwritten ≡ false
     → judged_reply (first_broken (check rules.OutsideArguments (not given) ∷ check rules.WroteInput unwritten ∷ check rules.ReadUnwritten false ∷ check rules.LeftUnwritten false
-        ∷ check rules.TaskStack false ∷ check rules.Units false ∷ [])) (Says 0)
+    ∷ check rules.TaskStack false ∷ check rules.Units false ∷ [])) (Says 0)
     ≡ (if given then Says 0 else Refuses rules.OutsideArguments)
 store_reply true unwritten none = rw none
 store_reply false unwritten none = refl

@@ -1,21 +1,20 @@
 -- What a machine's run over a task's space comes to is what the task by itself comes to.
-use Rattle.std.proofs.Common.{◌≡◌, ℕ, suc, ◌+◌, ◌-◌, List, [], ◌∷◌, ◌++◌, length, map, All, Option, Some, slice_get, if◌then◌else◌, refl, ap, sym, subst, ◌∙◌}
+use Rattle.std.proofs.Common.{◌≡◌, ℕ, suc, ◌+◌, List, [], ◌∷◌, ◌++◌, map, All, Some, slice_get, refl, ap, sym, ◌∙◌}
 use Rattle.css_base.specs.declared.limits.Limits.{Limits}
 use Rattle.css_base.specs.declared.ending.Stop.{Stop}
-use Rattle.css_base.specs.declared.ending.Stop.TheVariants as stops
 use Rattle.css_base.specs.declared.ending.FaultKind.TheVariants.{OutsideMemory}
-use Rattle.css_semantics.specs.Dialogue.{Leave, Returns, Fault, Item, Tape, World, Reply, Says, Fails, Refuses, Outcome, Goes, Stops, Stopped, item, then_do, ask, replied}
+use Rattle.css_semantics.specs.Dialogue.{Leave, Returns, Fault, Item, Tape, World, Reply, Says, Fails, Refuses, Goes, Stops, Stopped, item, then_do, ask, replied}
 use Rattle.css_semantics.specs.Worlds.{state_after, AreOfMachine, Follows}
 use Rattle.css_semantics.specs.Units.{Metered, with_units, metered, spending}
 use Rattle.css_semantics.specs.Tasks.{Use, plain}
-use Rattle.css_semantics.specs.Alone.{Solitude, TaskMemory, task_place, outs, at_entry, alone_after, alone_reply, alone_world, outs_after}
+use Rattle.css_semantics.specs.Alone.{Solitude, TaskMemory, task_place, outs, at_entry, alone_after, alone_world, outs_after}
 use Rattle.css_semantics.specs.TaskSpaces.{TaskState, place_of, space_reply, space_after, IsClearOf, ArePartedRegions}
-use Rattle.css_semantics.proofs.TaskWorlds.{IsBoth, Stands, space_of, counted, counted_along, stands_along, returns_says, world_follows, row_of, rows_along}
+use Rattle.css_semantics.proofs.TaskWorlds.{IsBoth, Stands, counted, counted_along, stands_along, returns_says, world_follows, row_of, rows_along}
 use Rattle.css_semantics.proofs.TaskRows.{IsRow}
 use Rattle.css_semantics.proofs.TaskOuts.{outs_are}
 use Rattle.std.proofs.lemmas.List.{append-nil}
 use Rattle.css_vm.specs.Code.{Code}
-use Rattle.css_vm.specs.Machine.{State, Begin, At, Finished, Halt, exec, body_ends, frame_of, alone}
+use Rattle.css_vm.specs.Machine.{State, Begin, At, Finished, body_ends, frame_of, alone}
 use Rattle.css_vm.specs.Events.{Reaches, Does, IsStacked, IsInside, base_of}
 use Rattle.css_vm.specs.Spaces.{IsRefusal}
 use Rattle.css_vm.specs.declared.machine.Event.TheVariants as events
@@ -49,14 +48,16 @@ module _ (code : Code) (limits : Limits) (uses : List Use) (inputs : List (List 
   refused : (reply : Reply) (stop : Stop) (base at : ℕ) (tape : Tape) (cell : ℕ) → w tape (item (Leave base frame) at) ≡ reply → IsRefusal reply stop
       → (tape' : Tape) × (body_ends w frame (Finished cell base at) tape ≡ Stops (Stopped stop at) tape')
   refused (Says value) stop base at tape cell is refusal = absurd refusal
-  refused Fails stop base at tape cell is refusal =
-      (item (Fault OutsideMemory) at ∷ item (Leave base frame) at ∷ tape,
-      ap (λ reply. then_do (replied reply (item (Leave base frame) at) tape) (λ r t. then_do (ask w Returns at t) (λ r' t'. Goes (Some cell) t'))) is
-      ∙ ap (λ s. Stops (Stopped s at) (item (Fault OutsideMemory) at ∷ item (Leave base frame) at ∷ tape)) (sym refusal))
-  refused (Refuses rule) stop base at tape cell is refusal =
-      (tape,
-      ap (λ reply. then_do (replied reply (item (Leave base frame) at) tape) (λ r t. then_do (ask w Returns at t) (λ r' t'. Goes (Some cell) t'))) is
-      ∙ ap (λ s. Stops (Stopped s at) tape) (sym refusal))
+  refused Fails stop base at tape cell is refusal = (
+    item (Fault OutsideMemory) at ∷ item (Leave base frame) at ∷ tape,
+    ap (λ reply. then_do (replied reply (item (Leave base frame) at) tape) (λ r t. then_do (ask w Returns at t) (λ r' t'. Goes (Some cell) t'))) is
+        ∙ ap (λ s. Stops (Stopped s at) (item (Fault OutsideMemory) at ∷ item (Leave base frame) at ∷ tape)) (sym refusal),
+  )
+  refused (Refuses rule) stop base at tape cell is refusal = (
+    tape,
+    ap (λ reply. then_do (replied reply (item (Leave base frame) at) tape) (λ r t. then_do (ask w Returns at t) (λ r' t'. Goes (Some cell) t'))) is
+        ∙ ap (λ s. Stops (Stopped s at) tape) (sym refusal),
+  )
 
   module _ (new : State) (space' : TaskState) (units' cell at : ℕ) (reaches : Reaches (metered space_reply) (spending space_after) code (Begin function arguments line) start (events.Ended cell at) new (with_units space' units'))
       (inside : IsInside new) (stacked : IsStacked code (place_of space') new) where
@@ -106,10 +107,13 @@ module _ (code : Code) (limits : Limits) (uses : List Use) (inputs : List (List 
         let tape = there.0 ++ [] in
         let end : last.memory ≡ m = memory_is ∙ is in
         let kept : map row_of m.regions ≡ map (λ u. plain u.window.base u.window.width) uses =
-        ap (λ (m : TaskMemory). map row_of m.regions) (sym end) ∙ rows_along (at_entry uses inputs place) (leaving ∷ there.0) ∙ same in
-        (there.3.0 + suc 0, cell, item Returns at ∷ leaving ∷ tape,
-        ap (λ q. then_do q (body_ends w frame)) (there.3.1 0)
-        ∙ ap (λ reply. then_do (replied reply leaving tape) (λ r t. then_do (ask w Returns at t) (λ r' t'. Goes (Some cell) t'))) (left ∙ says)
-        ∙ ap (λ reply. then_do (replied reply (item Returns at) (leaving ∷ tape)) (λ r' t'. Goes (Some cell) t')) returned,
-        sym (ap (λ t. (outs (state_after alone_after (at_entry uses inputs place) (leaving ∷ t)).memory uses)) (append-nil there.0)
-        ∙ ap (λ m. outs m uses) end ∙ outs_are m parted clear uses rows kept))
+        ap (λ (m : TaskMemory). map row_of m.regions) (sym end) ∙ rows_along (at_entry uses inputs place) (leaving ∷ there.0) ∙ same in (
+          there.3.0 + suc 0,
+          cell,
+          item Returns at ∷ leaving ∷ tape,
+          ap (λ q. then_do q (body_ends w frame)) (there.3.1 0)
+              ∙ ap (λ reply. then_do (replied reply leaving tape) (λ r t. then_do (ask w Returns at t) (λ r' t'. Goes (Some cell) t'))) (left ∙ says)
+              ∙ ap (λ reply. then_do (replied reply (item Returns at) (leaving ∷ tape)) (λ r' t'. Goes (Some cell) t')) returned,
+          sym (ap (λ t. (outs (state_after alone_after (at_entry uses inputs place) (leaving ∷ t)).memory uses)) (append-nil there.0)
+              ∙ ap (λ m. outs m uses) end ∙ outs_are m parted clear uses rows kept),
+        )

@@ -1,17 +1,16 @@
 -- What a record that fits its code says of a task whose windows are rows that are read and written.
-use Rattle.std.proofs.Common.{◌≡◌, ◌≤◌, ◌+◌, ◌-◌, ◌*◌, ◌^◌, ◌<◌, ℕ, zero, suc, Bool, true, false, List, [], ◌∷◌, length, map, filter, get_or, All, ◌⊎◌, inl, inr, refl, ap, sym, subst, ◌∙◌, arith}
-use Rattle.css_base.specs.declared.direction.Direction.TheVariants as directions
+use Rattle.std.proofs.Common.{◌≡◌, ◌≤◌, ◌-◌, ℕ, suc, Bool, true, false, List, [], ◌∷◌, length, map, filter, get_or, All, inl, inr, refl, ap, ◌∙◌, arith}
 use Rattle.css_semantics.specs.Tasks.{Window, Use, plain, window_length, reads, writes}
 use Rattle.css_semantics.specs.Rules.{share_byte}
-use Rattle.css_semantics.specs.Alone.{Region, at_entry}
-use Rattle.css_semantics.specs.TaskSpaces.{holds, IsClearOf, ArePartedRegions}
+use Rattle.css_semantics.specs.Alone.{at_entry}
+use Rattle.css_semantics.specs.TaskSpaces.{holds, IsClearOf}
 use Rattle.std.specs.List.{list_any}
 use Rattle.css_semantics.proofs.TaskWorlds.{IsBoth, Stands, all_head, all_tail, all_cons, row_of}
-use Rattle.css_semantics.proofs.TaskRows.{IsRow, regions_for, AreLengths, AreApartUses, given_is, regions_have, rows_apart, regions_parted, first_length, other_lengths, row_length}
+use Rattle.css_semantics.proofs.TaskRows.{IsRow, regions_for, AreLengths, AreApartUses, given_is, regions_have, rows_apart, first_length, other_lengths, row_length}
 use Rattle.css_vm.specs.declared.code.ArgShape.{ArgShape}
 use Rattle.css_vm.specs.declared.code.ArgShape.TheVariants as shapes
 use Rattle.css_record.specs.Windows.{IsWindow}
-use Rattle.css_record.specs.Records.{AreGiven, uses_by, arguments_by, AgreeInBytes, AllAgree, IsClearOfStack, read_windows, InputsFit}
+use Rattle.css_record.specs.Records.{AreGiven, uses_by, arguments_by, AgreeInBytes, AllAgree, IsClearOfStack, InputsFit}
 use Rattle.css_task.specs.Alone.{IsPlainUse}
 use Rattle.css_task.specs.Regions.{regions_by}
 

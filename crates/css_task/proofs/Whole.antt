@@ -1,17 +1,17 @@
 -- What a machine over the space of a record's task comes to is what the task alone comes to, by the record.
-use Rattle.std.proofs.Common.{◌≡◌, ◌-◌, ◌≤◌, ℕ, zero, suc, List, [], ◌∷◌, length, map, All, Option, Some, slice_get, refl, ap, sym, subst, ◌∙◌}
+use Rattle.std.proofs.Common.{◌≡◌, ℕ, List, [], map, All, Option, Some, slice_get, ap, sym, subst, ◌∙◌}
 use Rattle.std.proofs.Math.Nat.{sub-zero}
 use Rattle.css_base.specs.declared.limits.Limits.{Limits}
 use Rattle.css_base.specs.declared.ending.Stop.{Stop}
-use Rattle.css_semantics.specs.Dialogue.{Tape, Leave, Says, Goes, Stops, Stopped}
+use Rattle.css_semantics.specs.Dialogue.{Leave, Says}
 use Rattle.css_semantics.specs.Units.{Metered, with_units, metered, spending}
-use Rattle.css_semantics.specs.Tasks.{Use, Window}
-use Rattle.css_semantics.specs.Alone.{Region, TaskMemory, at_entry, task_place, alone_world, given_regions}
+use Rattle.css_semantics.specs.Tasks.{Use}
+use Rattle.css_semantics.specs.Alone.{Region, TaskMemory, at_entry, task_place, given_regions}
 use Rattle.css_semantics.specs.TaskSpaces.{TaskState, place_of, space_reply, space_after, IsClearOf, ArePartedRegions}
 use Rattle.css_semantics.proofs.TaskWorlds.{Stands, counted, row_of}
 use Rattle.css_semantics.proofs.TaskRows.{IsRow, AreLengths, regions_for, regions_parted, given_is}
 use Rattle.css_vm.specs.Code.{Routine, Shape, Code}
-use Rattle.css_vm.specs.Machine.{State, Begin, alone, frame_of}
+use Rattle.css_vm.specs.Machine.{State, Begin, frame_of}
 use Rattle.css_vm.specs.Events.{Reaches, IsInside, IsStacked}
 use Rattle.css_vm.specs.Spaces.{IsRefusal}
 use Rattle.css_vm.specs.declared.machine.Event.{Event}

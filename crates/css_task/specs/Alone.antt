@@ -1,5 +1,5 @@
 -- What a task's run by itself comes to.
-use Rattle.std.specs.Prelude.{◌≡◌, ℕ, List, map, All, Some, slice_get}
+use Rattle.std.specs.Prelude.{◌≡◌, ℕ, List, All, Some, slice_get}
 use Rattle.css_base.specs.declared.direction.Direction.TheVariants.{InOut}
 use Rattle.css_base.specs.declared.ending.Stop.{Stop}
 use Rattle.css_base.specs.declared.limits.Limits.{Limits}
@@ -9,7 +9,7 @@ use Rattle.css_semantics.specs.Alone.{alone_world, outs_after}
 use Rattle.css_vm.specs.Code.{Routine, Shape, Code}
 use Rattle.css_vm.specs.Machine.{alone}
 use Rattle.css_record.specs.declared.task_record.TaskRecord.{TaskRecord}
-use Rattle.css_record.specs.Records.{FitsCode, uses, arguments, InputsFit}
+use Rattle.css_record.specs.Records.{uses, arguments, InputsFit}
 use Rattle.css_task.specs.declared.shared.SharedEnd.{SharedEnd}
 use Rattle.css_task.specs.declared.shared.SharedEnd.TheVariants as ends
 

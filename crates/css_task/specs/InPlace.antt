@@ -1,18 +1,17 @@
 -- A task's body that is run at its call, in the flat memory and under the rules, against the task by itself.
-use Rattle.std.specs.Prelude.{◌≡◌, zero, suc, ◌+◌, ◌++◌, ℕ, List, [], ◌∷◌, length, take, drop, map, All, Option, Some, slice_get, if◌then◌else◌}
+use Rattle.std.specs.Prelude.{◌≡◌, zero, suc, ◌+◌, ◌++◌, ℕ, List, [], ◌∷◌, length, take, drop, map, Option, Some, slice_get, if◌then◌else◌}
 use Rattle.css_base.specs.declared.limits.Limits.{Limits}
 use Rattle.css_base.specs.Limits.{IsInRange}
-use Rattle.css_semantics.specs.Dialogue.{Calls, Call, Item, Tape, World, Outcome, Goes, Stops, item, then_do}
+use Rattle.css_semantics.specs.Dialogue.{Calls, Tape, World, Outcome, Goes, Stops, item, then_do}
 use Rattle.css_semantics.specs.Memory.{Memory, stack_place, stored, memory_after}
 use Rattle.css_semantics.specs.Flat.{no_frames}
-use Rattle.css_semantics.specs.Tasks.{Window, Use, use_of, writes}
+use Rattle.css_semantics.specs.Tasks.{Use, use_of, writes}
 use Rattle.css_semantics.specs.Clear.{IsClear}
 use Rattle.css_semantics.specs.Verdict.{judged_in, bytes_of_window}
 use Rattle.css_semantics.specs.Alone.{alone_world, outs_after}
-use Rattle.css_vm.specs.Code.{Routine, Shape, Code, call_of, narrowed_to}
+use Rattle.css_vm.specs.Code.{Routine, Shape, Code, call_of}
 use Rattle.css_vm.specs.Machine.{Begin, exec, body_ends, frame_of, alone}
 use Rattle.css_record.specs.Records.{read_windows}
-use Rattle.css_task.specs.Alone.{IsPlainUse}
 
 -- behind a tape
 abbrev pub behind : {A : Type 0} → Outcome A → Tape → Outcome A
