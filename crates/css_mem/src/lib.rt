@@ -6,4 +6,5 @@ mod main_memory;
 #[cfg(test)]
 mod tests;
 
+pub use big_endian::{byte_count, number_of, write_number};
 pub use main_memory::MainMemory;

@@ -1,3 +1,5 @@
 pub mod Ends
 pub mod Given
 pub mod Whole
+pub mod Stored
+pub mod Frames

@@ -1,3 +1,4 @@
 pub mod Alone
 pub mod InPlace
 pub mod Regions
+pub mod Parts

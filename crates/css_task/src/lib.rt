@@ -2,5 +2,6 @@
 #![tactic(auto)]
 
 mod shared;
+mod task_space;
 
 pub use shared::{SharedEnd, run_shared};
