@@ -155,8 +155,8 @@ module _ (code : Code) (top first : ℕ) where
 
   -- the innermost function runs, whatever its callers
   running : (a : Activation) (callers : List Caller) (frames : List ℕ) → AreOpen a callers frames → (others : List ℕ) × IsOpen a frames others
-  running a [] frames open = ([], open.0)
-  running a (c ∷ callers) frames open = (open.0, open.1)
+  running a [] frames opened = ([], opened.0)
+  running a (c ∷ callers) frames opened = (opened.0, opened.1)
 
 -- ---- steps
 
@@ -189,8 +189,8 @@ module _ (code : Code) (w w' : World) (tape : Tape) (top first : ℕ) (Holds : T
     with_cell (Some x) go go' each = each x
 
     with_choice : (b : Bool) (o p o' p' : Outcome After) → Steps o o' → Steps p p' → Steps (if b then o else p) (if b then o' else p')
-    with_choice true o p o' p' one other = one
-    with_choice false o p o' p' one other = other
+    with_choice true o p o' p' yes no = yes
+    with_choice false o p o' p' yes no = no
 
     with_many : (n : ℕ) (stack : List ℕ) (go go' : List ℕ → List ℕ → Outcome After) → ((xs rest : List ℕ) → Steps (go xs rest) (go' xs rest)) → Steps (on_many n stack (t ++ tape) go) (on_many n stack t go')
     with_many n stack go go' each =
@@ -201,12 +201,12 @@ module _ (code : Code) (w w' : World) (tape : Tape) (top first : ℕ) (Holds : T
     with_function None go go' each = stuck_same
     with_function (Some f) go go' each = each f refl
 
-  module _ (a : Activation) (callers : List Caller) (line place : ℕ) (t : Tape) (holds : Holds t) (open : AreOpen code top first a callers (open_frames t)) where
+  module _ (a : Activation) (callers : List Caller) (line place : ℕ) (t : Tape) (holds : Holds t) (opened : AreOpen code top first a callers (open_frames t)) where
     next_same : (stack : List ℕ) → Steps (next w code a callers line place stack (t ++ tape)) (next w' code a callers line place stack t)
-    next_same stack = record { is = refl; good = (holds, open) }
+    next_same stack = record { is = refl; good = (holds, opened) }
 
     jump_same : (to : ℕ) (stack : List ℕ) → Steps (Goes (On (At a callers to stack)) (t ++ tape)) (Goes (On (At a callers to stack)) t)
-    jump_same to stack = record { is = refl; good = (holds, open) }
+    jump_same to stack = record { is = refl; good = (holds, opened) }
 
     one_same : (g : ℕ → ℕ) (stack : List ℕ) → Steps (one w code a callers line place g stack (t ++ tape)) (one w' code a callers line place g stack t)
     one_same g stack = with_one t holds stack _ _ (λ x rest. next_same (g x ∷ rest))
@@ -225,7 +225,7 @@ module _ (code : Code) (w w' : World) (tape : Tape) (top first : ℕ) (Holds : T
         same_then tape (Done w w' tape top Holds alike action line t) GoodAfter (ask w action line (t ++ tape)) (ask w' action line t)
         (λ r t'. next w code a callers line place (cells r) t') (λ r t'. next w' code a callers line place (cells r) t')
         (asked w w' tape top Holds alike action line t holds asks)
-        (λ r t' done. record { is = refl; good = (done.0, subst (AreOpen code top first a callers) (sym (done.1 ∙ kept)) open) })
+        (λ r t' done. record { is = refl; good = (done.0, subst (AreOpen code top first a callers) (sym (done.1 ∙ kept)) opened) })
 
     -- calls
     calling_same : (k : ℕ) (f : Routine) (arguments rest : List ℕ) → slice_get code.functions k ≡ Some f → IsReached code k
@@ -233,76 +233,76 @@ module _ (code : Code) (w w' : World) (tape : Tape) (top first : ℕ) (Holds : T
     calling_same k f arguments rest is reached =
         same_then tape (IsEntered w w' tape top Holds alike f.frame (open_frames t)) GoodAfter (entered w f arguments line (t ++ tape)) (entered w' f arguments line t) _ _
         (entered_same w w' tape top Holds alike f arguments line t holds)
-        (λ base t' in. record {
+        (λ base t' held. record {
         is = refl;
-        good = (in.0, (open_frames t, record { reached = reached; plain = refl; base = in.2 ∙ ap (λ frames. top - total frames) (sym in.1); frame = in.1 ∙ ap (λ o. frame_of o ∷ open_frames t) (sym is) }, open));
+        good = (held.0, (open_frames t, record { reached = reached; plain = refl; base = held.2 ∙ ap (λ frames. top - total frames) (sym held.1); frame = held.1 ∙ ap (λ o. frame_of o ∷ open_frames t) (sym is) }, opened));
         })
 
   -- returns
   returning_same : (a : Activation) (callers : List Caller) (line place : ℕ) (t : Tape) → Holds t → AreOpen code top first a callers (open_frames t) → (f : Routine) (cell : ℕ) → slice_get code.functions a.function ≡ Some f
       → Steps (returning w code a callers line place callers f cell (t ++ tape)) (returning w' code a callers line place callers f cell t)
-  returning_same a [] line place t holds open f cell is = record {
+  returning_same a [] line place t holds opened f cell is = record {
     is = refl;
-    good = (holds, ([], open.0.frame ∙ ap (λ n. frame_of (slice_get code.functions n) ∷ []) open.1, open.0.base));
+    good = (holds, ([], opened.0.frame ∙ ap (λ n. frame_of (slice_get code.functions n) ∷ []) opened.1, opened.0.base));
   }
-  returning_same a (c ∷ others) line place t holds open f cell is =
-      rw open.1.plain (same_then tape (Done w w' tape top Holds alike (Leave a.base f.frame) line t) GoodAfter (ask w (Leave a.base f.frame) line (t ++ tape)) (ask w' (Leave a.base f.frame) line t)
+  returning_same a (c ∷ others) line place t holds opened f cell is =
+      rw opened.1.plain (same_then tape (Done w w' tape top Holds alike (Leave a.base f.frame) line t) GoodAfter (ask w (Leave a.base f.frame) line (t ++ tape)) (ask w' (Leave a.base f.frame) line t)
       (λ r t'. Goes (On (At c.activation others c.place (cell ∷ c.stack))) t') (λ r t'. Goes (On (At c.activation others c.place (cell ∷ c.stack))) t')
-      (asked w w' tape top Holds alike (Leave a.base f.frame) line t holds (open.0, open.1.frame ∙ ap (λ o. frame_of o ∷ open.0) is, open.1.base))
-      (λ r t' done. record { is = refl; good = (done.0, subst (AreOpen code top first c.activation others) (sym (done.1 ∙ ap (λ frames. drop 1 frames) open.1.frame)) open.2) }))
+      (asked w w' tape top Holds alike (Leave a.base f.frame) line t holds (opened.0, opened.1.frame ∙ ap (λ o. frame_of o ∷ opened.0) is, opened.1.base))
+      (λ r t' done. record { is = refl; good = (done.0, subst (AreOpen code top first c.activation others) (sym (done.1 ∙ ap (λ frames. drop 1 frames) opened.1.frame)) opened.2) }))
 
-  module _ (a : Activation) (callers : List Caller) (line place : ℕ) (t : Tape) (holds : Holds t) (open : AreOpen code top first a callers (open_frames t)) where
+  module _ (a : Activation) (callers : List Caller) (line place : ℕ) (t : Tape) (holds : Holds t) (opened : AreOpen code top first a callers (open_frames t)) where
     effect_same : (op : Op) (stack : List ℕ) → IsQuiet code op → ((k : ℕ) → op ≡ ops.Call k → IsReached code k)
         → Steps (effect w code a callers line place op stack (t ++ tape)) (effect w' code a callers line place op stack t)
-    effect_same (ops.Push v) stack quiet reaches = next_same a callers line place t holds open (cell_of v ∷ stack)
-    effect_same ops.Drop stack quiet reaches = with_one t holds stack _ _ (λ x rest. next_same a callers line place t holds open rest)
-    effect_same (ops.Dup n) stack quiet reaches = with_cell t holds (slice_get stack n) _ _ (λ x. next_same a callers line place t holds open (x ∷ stack))
-    effect_same ops.Swap stack quiet reaches = with_two t holds stack _ _ (λ x y rest. next_same a callers line place t holds open (x ∷ y ∷ rest))
-    effect_same (ops.Frame k) stack quiet reaches = next_same a callers line place t holds open ((a.base + k) ∷ stack)
+    effect_same (ops.Push v) stack quiet reaches = next_same a callers line place t holds opened (cell_of v ∷ stack)
+    effect_same ops.Drop stack quiet reaches = with_one t holds stack _ _ (λ x rest. next_same a callers line place t holds opened rest)
+    effect_same (ops.Dup n) stack quiet reaches = with_cell t holds (slice_get stack n) _ _ (λ x. next_same a callers line place t holds opened (x ∷ stack))
+    effect_same ops.Swap stack quiet reaches = with_two t holds stack _ _ (λ x y rest. next_same a callers line place t holds opened (x ∷ y ∷ rest))
+    effect_same (ops.Frame k) stack quiet reaches = next_same a callers line place t holds opened ((a.base + k) ∷ stack)
     effect_same ops.Load32u stack quiet reaches =
-        with_one t holds stack _ _ (λ x rest. asks_next a callers line place t holds open (Load (x % 2 ^ 32) 4) (λ r. narrowed narrows.U32 r ∷ rest) tt refl)
+        with_one t holds stack _ _ (λ x rest. asks_next a callers line place t holds opened (Load (x % 2 ^ 32) 4) (λ r. narrowed narrows.U32 r ∷ rest) tt refl)
     effect_same ops.Load32s stack quiet reaches =
-        with_one t holds stack _ _ (λ x rest. asks_next a callers line place t holds open (Load (x % 2 ^ 32) 4) (λ r. narrowed narrows.S32 r ∷ rest) tt refl)
+        with_one t holds stack _ _ (λ x rest. asks_next a callers line place t holds opened (Load (x % 2 ^ 32) 4) (λ r. narrowed narrows.S32 r ∷ rest) tt refl)
     effect_same ops.Store32 stack quiet reaches =
-        with_two t holds stack _ _ (λ x v rest. asks_next a callers line place t holds open (Store (x % 2 ^ 32) (big_endian_bytes 4 v)) (λ r. v ∷ rest) tt refl)
-    effect_same ops.Add stack quiet reaches = two_same a callers line place t holds open sum_of stack
-    effect_same ops.Sub stack quiet reaches = two_same a callers line place t holds open difference_of stack
-    effect_same ops.Mul stack quiet reaches = two_same a callers line place t holds open product_of stack
-    effect_same ops.And stack quiet reaches = two_same a callers line place t holds open bit_and stack
-    effect_same ops.Or stack quiet reaches = two_same a callers line place t holds open bit_or stack
-    effect_same ops.Xor stack quiet reaches = two_same a callers line place t holds open bit_xor stack
-    effect_same ops.Neg stack quiet reaches = one_same a callers line place t holds open negative_of stack
-    effect_same ops.Not stack quiet reaches = one_same a callers line place t holds open complement_of stack
-    effect_same ops.Divs stack quiet reaches = division_same a callers line place t holds open quotient_of stack
-    effect_same ops.Rems stack quiet reaches = division_same a callers line place t holds open remainder_of stack
-    effect_same (ops.Shl n) stack quiet reaches = two_same a callers line place t holds open (shifted_left n) stack
-    effect_same (ops.Shrs n) stack quiet reaches = two_same a callers line place t holds open (shifted_right n) stack
-    effect_same ops.Eq stack quiet reaches = two_same a callers line place t holds open are_equal stack
-    effect_same ops.Ne stack quiet reaches = two_same a callers line place t holds open differ stack
-    effect_same ops.Lts stack quiet reaches = two_same a callers line place t holds open is_below stack
-    effect_same (ops.Conv to) stack quiet reaches = one_same a callers line place t holds open (narrowed to) stack
-    effect_same (ops.Jump to) stack quiet reaches = jump_same a callers line place t holds open to stack
+        with_two t holds stack _ _ (λ x v rest. asks_next a callers line place t holds opened (Store (x % 2 ^ 32) (big_endian_bytes 4 v)) (λ r. v ∷ rest) tt refl)
+    effect_same ops.Add stack quiet reaches = two_same a callers line place t holds opened sum_of stack
+    effect_same ops.Sub stack quiet reaches = two_same a callers line place t holds opened difference_of stack
+    effect_same ops.Mul stack quiet reaches = two_same a callers line place t holds opened product_of stack
+    effect_same ops.And stack quiet reaches = two_same a callers line place t holds opened bit_and stack
+    effect_same ops.Or stack quiet reaches = two_same a callers line place t holds opened bit_or stack
+    effect_same ops.Xor stack quiet reaches = two_same a callers line place t holds opened bit_xor stack
+    effect_same ops.Neg stack quiet reaches = one_same a callers line place t holds opened negative_of stack
+    effect_same ops.Not stack quiet reaches = one_same a callers line place t holds opened complement_of stack
+    effect_same ops.Divs stack quiet reaches = division_same a callers line place t holds opened quotient_of stack
+    effect_same ops.Rems stack quiet reaches = division_same a callers line place t holds opened remainder_of stack
+    effect_same (ops.Shl n) stack quiet reaches = two_same a callers line place t holds opened (shifted_left n) stack
+    effect_same (ops.Shrs n) stack quiet reaches = two_same a callers line place t holds opened (shifted_right n) stack
+    effect_same ops.Eq stack quiet reaches = two_same a callers line place t holds opened are_equal stack
+    effect_same ops.Ne stack quiet reaches = two_same a callers line place t holds opened differ stack
+    effect_same ops.Lts stack quiet reaches = two_same a callers line place t holds opened is_below stack
+    effect_same (ops.Conv to) stack quiet reaches = one_same a callers line place t holds opened (narrowed to) stack
+    effect_same (ops.Jump to) stack quiet reaches = jump_same a callers line place t holds opened to stack
     effect_same (ops.Jumpz to) stack quiet reaches =
         with_one t holds stack _ _ (λ x rest.
-        with_choice t holds (nat_eq x 0) _ _ _ _ (jump_same a callers line place t holds open to rest) (next_same a callers line place t holds open rest))
+        with_choice t holds (nat_eq x 0) _ _ _ _ (jump_same a callers line place t holds opened to rest) (next_same a callers line place t holds opened rest))
     effect_same (ops.Call k) stack quiet reaches =
         with_function t holds (slice_get code.functions k) _ _ (λ f is.
-        with_many t holds (length f.parameters) stack _ _ (λ arguments rest. calling_same a callers line place t holds open k f arguments rest is (reaches k refl)))
+        with_many t holds (length f.parameters) stack _ _ (λ arguments rest. calling_same a callers line place t holds opened k f arguments rest is (reaches k refl)))
     effect_same (ops.Submit k) stack quiet reaches = absurd quiet
     effect_same (ops.Mark kind) stack quiet reaches = absurd quiet
-    effect_same ops.Turn stack quiet reaches = asks_next a callers line place t holds open Turn (λ r. stack) tt refl
+    effect_same ops.Turn stack quiet reaches = asks_next a callers line place t holds opened Turn (λ r. stack) tt refl
     effect_same (ops.Out conversion) stack quiet reaches = absurd quiet
     effect_same ops.Ret stack quiet reaches =
         with_one t holds stack _ _ (λ x rest.
-        with_function t holds (slice_get code.functions a.function) _ _ (λ f is. returning_same a callers line place t holds open f x is))
+        with_function t holds (slice_get code.functions a.function) _ _ (λ f is. returning_same a callers line place t holds opened f x is))
 
   module _ (plans : List (List Spot)) (sound : IsSound code plans) where
     instr_same : (f : Routine) (o : Option Instr) (a : Activation) (callers : List Caller) (place : ℕ) (stack : List ℕ) (t : Tape) → Holds t → AreOpen code top first a callers (open_frames t)
         → slice_get code.functions a.function ≡ Some f → slice_get f.body place ≡ o → Steps (at_instr w code o a callers place stack (t ++ tape)) (at_instr w' code o a callers place stack t)
-    instr_same f None a callers place stack t holds open is at = stuck_same t holds
-    instr_same f (Some i) a callers place stack t holds open is at =
-        let reached = (running code top first a callers (open_frames t) open).1.reached in
-        effect_same a callers i.line place t holds open i.op stack
+    instr_same f None a callers place stack t holds opened is at = stuck_same t holds
+    instr_same f (Some i) a callers place stack t holds opened is at =
+        let reached = (running code top first a callers (open_frames t) opened).1.reached in
+        effect_same a callers i.line place t holds opened i.op stack
         (all_at (λ i. IsQuiet code i.op) f.body place i at (sound.quiet a.function f reached is))
         (λ k calls. Called a.function f i reached is (contains_at f.body place i at) calls)
 
@@ -311,16 +311,16 @@ module _ (code : Code) (w w' : World) (tape : Tape) (top first : ℕ) (Holds : T
     beginning_same f arguments line t holds reached none is =
         same_then tape (IsEntered w w' tape top Holds alike f.frame (open_frames t)) GoodAfter (entered w f arguments line (t ++ tape)) (entered w' f arguments line t) _ _
         (entered_same w w' tape top Holds alike f arguments line t holds)
-        (λ base t' in. record {
+        (λ base t' held. record {
         is = refl;
-        good = (in.0, (record { reached = reached; plain = refl; base = in.2 ∙ ap (λ frames. top - total frames) (sym in.1); frame = in.1 ∙ ap (λ frames. f.frame ∷ frames) none ∙ ap (λ o. frame_of o ∷ []) (sym is) }, refl));
+        good = (held.0, (record { reached = reached; plain = refl; base = held.2 ∙ ap (λ frames. top - total frames) (sym held.1); frame = held.1 ∙ ap (λ frames. f.frame ∷ frames) none ∙ ap (λ o. frame_of o ∷ []) (sym is) }, refl));
         })
 
     step_same : (s : State) (t : Tape) → Holds t → IsIn code top first s (open_frames t) → Steps (step w code s (t ++ tape)) (step w' code s t)
-    step_same (Begin k arguments line) t holds in =
-        rw in.1 (with_function t holds (slice_get code.functions first) _ _ (λ f is. beginning_same f arguments line t holds (subst (IsReached code) in.1 in.0) in.2 is))
-    step_same (At a callers place stack) t holds in =
-        with_function t holds (slice_get code.functions a.function) _ _ (λ f is. instr_same f (slice_get f.body place) a callers place stack t holds in is refl)
+    step_same (Begin k arguments line) t holds held =
+        rw held.1 (with_function t holds (slice_get code.functions first) _ _ (λ f is. beginning_same f arguments line t holds (subst (IsReached code) held.1 held.0) held.2 is))
+    step_same (At a callers place stack) t holds held =
+        with_function t holds (slice_get code.functions a.function) _ _ (λ f is. instr_same f (slice_get f.body place) a callers place stack t holds held is refl)
 
     after_same : (n : ℕ) → ((s : State) (t : Tape) → Holds t → IsIn code top first s (open_frames t) → Same tape GoodHalt (exec w code n s (t ++ tape)) (exec w' code n s t))
         → (after : After) (t : Tape) → GoodAfter after t → Same tape GoodHalt (go_on (exec w code n) after (t ++ tape)) (go_on (exec w' code n) after t)
@@ -328,10 +328,10 @@ module _ (code : Code) (w w' : World) (tape : Tape) (top first : ℕ) (Holds : T
     after_same n fewer (On s) t good = fewer s t good.0 good.1
 
     pub exec_same : (n : ℕ) (s : State) (t : Tape) → Holds t → IsIn code top first s (open_frames t) → Same tape GoodHalt (exec w code n s (t ++ tape)) (exec w' code n s t)
-    exec_same zero s t holds in = record { is = refl; good = tt }
-    exec_same (suc n) s t holds in =
+    exec_same zero s t holds held = record { is = refl; good = tt }
+    exec_same (suc n) s t holds held =
         same_then tape GoodAfter GoodHalt (step w code s (t ++ tape)) (step w' code s t) (go_on (exec w code n)) (go_on (exec w' code n))
-        (step_same s t holds in) (after_same n (exec_same n))
+        (step_same s t holds held) (after_same n (exec_same n))
 
     -- ---- whole bodies
 

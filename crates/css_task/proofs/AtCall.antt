@@ -41,9 +41,9 @@ module _ (code : Code) (limits : Limits) (tape : Tape) (k : ℕ) (arguments : Li
   lowest = omega (arith, above)
 
   windowed : (a : ℕ) → IsWindowed uses a → (place ≤ a) × (a < limits.memory)
-  windowed a in =
+  windowed a held =
       let clear : IsClear (no_frames limits.memory) limits (item (Calls call) line ∷ at.before) = subst (IsClear (no_frames limits.memory) limits) at.call at.clear in
-      let live_before = given_live (no_frames limits.memory) limits at.before call clear.0 at.by_main a (subst (λ us. IsWindowed us a) at.uses_are in) in
+      let live_before = given_live (no_frames limits.memory) limits at.before call clear.0 at.by_main a (subst (λ us. IsWindowed us a) at.uses_are held) in
       let live : is_live_byte m a ≡ true = ap (λ t. is_live_byte (memory_after (no_frames limits.memory) t) a) at.call ∙ live_before in
       let between : is_between (limits.memory - length m.stack) limits.memory a ≡ true = sym (flat_live limits.memory [] m.stack m.calls a) ∙ ap (λ (m : Memory). is_live_byte m a) (sym alone_stack) ∙ live in
       let parts = and_parts (nat_le (limits.memory - length m.stack) a) (nat_lt a limits.memory) between in
@@ -68,7 +68,7 @@ module _ (code : Code) (limits : Limits) (tape : Tape) (k : ℕ) (arguments : Li
       bytes = omega arith;
       few = omega arith;
       has = given_have m uses plain;
-      same = λ a in. sym (stack_byte a) ∙ sym (given_byte m uses plain a in);
+      same = λ a held. sym (stack_byte a) ∙ sym (given_byte m uses plain a held);
     };
   }
 

@@ -99,8 +99,8 @@ module _ (w : World) (code : Code) (c : Caller) (others : List Caller) (k : ℕ)
     with_cell (Some x) t go go' each = each x
 
     with_choice : (b : Bool) (o p o' p' : Outcome After) → Lifts o o' → Lifts p p' → Lifts (if b then o else p) (if b then o' else p')
-    with_choice true o p o' p' one other = one
-    with_choice false o p o' p' one other = other
+    with_choice true o p o' p' yes no = yes
+    with_choice false o p o' p' yes no = no
 
     with_many : (n : ℕ) (stack : List ℕ) (t : Tape) (go go' : List ℕ → List ℕ → Outcome After) → ((xs rest : List ℕ) → Lifts (go xs rest) (go' xs rest)) → Lifts (on_many n stack t go) (on_many n stack t go')
     with_many n stack t go go' each =

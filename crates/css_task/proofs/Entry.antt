@@ -107,18 +107,18 @@ one_of_two true b h first second = first refl
 one_of_two false b h first second = second h
 
 windows_live : (m : Memory) (arguments : List Argument) → list_any (λ a. not (all_of_window (is_live_byte m) (window a))) arguments ≡ false → (a : ℕ) → IsWindowed (map use_of arguments) a → is_live_byte m a ≡ true
-windows_live m [] none a in = absurd (cc)
-windows_live m (x ∷ arguments) none a in =
+windows_live m [] none a held = absurd (cc)
+windows_live m (x ∷ arguments) none a held =
     let parts = or_parts (not (all_of_window (is_live_byte m) (window x))) (list_any (λ a. not (all_of_window (is_live_byte m) (window a))) arguments) none in
-    one_of_two (has_byte (window x) a) (list_any (λ u. has_byte u.window a) (map use_of arguments)) in
+    one_of_two (has_byte (window x) a) (list_any (λ u. has_byte u.window a) (map use_of arguments)) held
     (λ here. window_gives (is_live_byte m) (window x) (not-false (all_of_window (is_live_byte m) (window x)) parts.0) a here)
     (λ later. windows_live m arguments parts.1 a later)
 
 -- what a call is given is live
 pub given_live : (start : Memory) (limits : Limits) (before : Tape) (call : Call) → hit start limits before (Calls call) ≡ None → body before ≡ None → (a : ℕ) → IsWindowed (map use_of call.arguments) a → is_live_byte (memory_after start before) a ≡ true
-given_live start limits before call none by_main a in =
+given_live start limits before call none by_main a held =
     let fine = sym (ap (hit_in (memory_after start before) limits before (Calls call)) by_main) ∙ none in
-    windows_live (memory_after start before) call.arguments (are_kept (checks_of_main (memory_after start before) limits before (Calls call)) fine).1.1.1.1.0 a in
+    windows_live (memory_after start before) call.arguments (are_kept (checks_of_main (memory_after start before) limits before (Calls call)) fine).1.1.1.1.0 a held
 
 -- ---- what the task is given
 
@@ -157,16 +157,16 @@ module _ (m : Memory) where
   in_choice r regions a false is here later = rw is (later is)
 
   region_byte : (regions : List Region) → HaveBytes regions → (a : ℕ) → is_in_regions regions a ≡ true → byte_of_regions regions a ≡ byte_at m a
-  region_byte [] have a in = absurd (cc)
-  region_byte (r ∷ regions) have a in =
-      in_choice r regions a (is_in_region r a) refl have.0 (λ out. region_byte regions have.1 a (ap (λ b. b || is_in_regions regions a) (sym out) ∙ in))
+  region_byte [] have a held = absurd (cc)
+  region_byte (r ∷ regions) have a held =
+      in_choice r regions a (is_in_region r a) refl have.0 (λ out. region_byte regions have.1 a (ap (λ b. b || is_in_regions regions a) (sym out) ∙ held))
 
   abbrev row : (base width : ℕ) → Region
   row base width = record { base = base; bytes = bytes_at m base width }
 
   row_has_bytes : (base width : ℕ) → HasBytes (row base width)
-  row_has_bytes base width a in =
-      let parts = and_parts (nat_le base a) (nat_lt a (base + length (bytes_at m base width))) in in
+  row_has_bytes base width a held =
+      let parts = and_parts (nat_le base a) (nat_lt a (base + length (bytes_at m base width))) held in
       let above = leb-true base a parts.0 in
       let under = ltb-true a (base + length (bytes_at m base width)) parts.1 in
       let at : base + (a - base) ≡ a = omega (arith, above) in
@@ -178,17 +178,17 @@ module _ (m : Memory) where
   append_bytes (x ∷ xs) ys have more = (have.0, append_bytes xs ys have.1 more)
 
   in_first : (xs ys : List Region) (a : ℕ) → is_in_regions xs a ≡ true → is_in_regions (xs ++ ys) a ≡ true
-  in_first [] ys a in = absurd (cc)
-  in_first (x ∷ xs) ys a in =
-      one_of_two (is_in_region x a) (is_in_regions xs a) in (λ here. ap (λ b. b || is_in_regions (xs ++ ys) a) here) (λ later. in_later (is_in_region x a) (is_in_regions (xs ++ ys) a) (in_first xs ys a later))
+  in_first [] ys a held = absurd (cc)
+  in_first (x ∷ xs) ys a held =
+      one_of_two (is_in_region x a) (is_in_regions xs a) held (λ here. ap (λ b. b || is_in_regions (xs ++ ys) a) here) (λ later. in_later (is_in_region x a) (is_in_regions (xs ++ ys) a) (in_first xs ys a later))
     where
       in_later : (a b : Bool) → b ≡ true → (a || b) ≡ true
       in_later true b h = refl
       in_later false b h = h
 
   in_second : (xs ys : List Region) (a : ℕ) → is_in_regions ys a ≡ true → is_in_regions (xs ++ ys) a ≡ true
-  in_second [] ys a in = in
-  in_second (x ∷ xs) ys a in = in_later (is_in_region x a) (is_in_regions (xs ++ ys) a) (in_second xs ys a in)
+  in_second [] ys a held = held
+  in_second (x ∷ xs) ys a held = in_later (is_in_region x a) (is_in_regions (xs ++ ys) a) (in_second xs ys a held)
     where
       in_later : (a b : Bool) → b ≡ true → (a || b) ≡ true
       in_later true b h = refl
@@ -205,12 +205,12 @@ module _ (m : Memory) where
       subst HaveBytes (sym (rows_more rows base width stride)) (row_has_bytes base width, rows_have_bytes rows (base + stride) width stride)
 
   rows_have_all : (rows base width stride : ℕ) (a : ℕ) → rows_have rows base width stride a ≡ true → is_in_regions (rows_as_regions rows base width stride (bytes_of_rows m rows base width stride)) a ≡ true
-  rows_have_all zero base width stride a in = absurd (cc)
-  rows_have_all (suc rows) base width stride a in =
+  rows_have_all zero base width stride a held = absurd (cc)
+  rows_have_all (suc rows) base width stride a held =
       let here = row base width in
       let others = rows_as_regions rows (base + stride) width stride (bytes_of_rows m rows (base + stride) width stride) in
       subst (λ regions. is_in_regions regions a ≡ true) (sym (rows_more rows base width stride))
-      (one_of_two (is_between base (base + width) a) (rows_have rows (base + stride) width stride a) in
+      (one_of_two (is_between base (base + width) a) (rows_have rows (base + stride) width stride a) held
       (λ first. in_first (here ∷ []) others a (ap (λ n. is_between base (base + n) a || false) (length_bytes base width) ∙ ap (λ b. b || false) first))
       (λ later. in_second (here ∷ []) others a (rows_have_all rows (base + stride) width stride a later)))
 
@@ -226,15 +226,15 @@ module _ (m : Memory) where
 
   -- each byte of a window is one of a region's
   pub given_have : (uses : List Use) → All IsPlainUse uses → (a : ℕ) → IsWindowed uses a → is_in_regions (given_regions uses (inputs_at m uses)) a ≡ true
-  given_have [] plain a in = absurd (cc)
-  given_have (u ∷ uses) plain a in =
+  given_have [] plain a held = absurd (cc)
+  given_have (u ∷ uses) plain a held =
       let mine = regions_of u.window (bytes_of_window m u.window) in
       let others = given_regions uses (inputs_at m uses) in
       subst (λ regions. is_in_regions regions a ≡ true) (sym (given_one u uses (All-head IsPlainUse u uses plain).0))
-      (one_of_two (has_byte u.window a) (list_any (λ u. has_byte u.window a) uses) in
+      (one_of_two (has_byte u.window a) (list_any (λ u. has_byte u.window a) uses) held
       (λ here. in_first mine others a (rows_have_all u.window.rows u.window.base u.window.width u.window.stride a here))
       (λ later. in_second mine others a (given_have uses (All-tail IsPlainUse u uses plain) a later)))
 
   -- and has the memory's byte
   pub given_byte : (uses : List Use) → All IsPlainUse uses → (a : ℕ) → IsWindowed uses a → byte_of_regions (given_regions uses (inputs_at m uses)) a ≡ byte_at m a
-  given_byte uses plain a in = region_byte (given_regions uses (inputs_at m uses)) (given_have_bytes uses plain) a (given_have uses plain a in)
+  given_byte uses plain a held = region_byte (given_regions uses (inputs_at m uses)) (given_have_bytes uses plain) a (given_have uses plain a held)

@@ -42,9 +42,9 @@ between_by from to a above below = and_from (nat_le from a) (nat_lt a to) (le-le
 
 module _ (address size a : ℕ) (above : address ≤ a) (below : a < address + size) where
   row_has : (rows base width stride : ℕ) → is_in_row rows base width stride address size ≡ true → rows_have rows base width stride a ≡ true
-  row_has zero base width stride in = absurd (cc)
-  row_has (suc rows) base width stride in =
-      elim (one_of (nat_le base address && nat_le (address + size) (base + width)) (is_in_row rows (base + stride) width stride address size) in) [
+  row_has zero base width stride held = absurd (cc)
+  row_has (suc rows) base width stride held =
+      elim (one_of (nat_le base address && nat_le (address + size) (base + width)) (is_in_row rows (base + stride) width stride address size) held) [
         | inl here ↦
             let parts = and_parts (nat_le base address) (nat_le (address + size) (base + width)) here in
             let from = leb-true base address parts.0 in
@@ -54,17 +54,17 @@ module _ (address size a : ℕ) (above : address ≤ a) (below : a < address + s
       ]
 
   windows_have : (uses : List Use) → list_any (λ u. is_in_window u.window address size) uses ≡ true → IsWindowed uses a
-  windows_have [] in = absurd (cc)
-  windows_have (u ∷ uses) in =
-      elim (one_of (is_in_window u.window address size) (list_any (λ u. is_in_window u.window address size) uses) in) [
+  windows_have [] held = absurd (cc)
+  windows_have (u ∷ uses) held =
+      elim (one_of (is_in_window u.window address size) (list_any (λ u. is_in_window u.window address size) uses) held) [
         | inl here ↦ or_left (has_byte u.window a) (list_any (λ u. has_byte u.window a) uses) (row_has u.window.rows u.window.base u.window.width u.window.stride here)
         | inr later ↦ or_right (has_byte u.window a) (list_any (λ u. has_byte u.window a) uses) (windows_have uses later)
       ]
 
   frames_have : (place : ℕ) (frames : List ℕ) → is_in_frame place frames address size ≡ true → (place - total frames ≤ a) × (a < place)
-  frames_have place [] in = absurd (cc)
-  frames_have place (frame ∷ frames) in =
-      elim (one_of (nat_le (place - total frames - frame) address && nat_le (address + size) (place - total frames)) (is_in_frame place frames address size) in) [
+  frames_have place [] held = absurd (cc)
+  frames_have place (frame ∷ frames) held =
+      elim (one_of (nat_le (place - total frames - frame) address && nat_le (address + size) (place - total frames)) (is_in_frame place frames address size) held) [
         | inl here ↦
             let parts = and_parts (nat_le (place - total frames - frame) address) (nat_le (address + size) (place - total frames)) here in
             let from = leb-true (place - total frames - frame) address parts.0 in
@@ -137,17 +137,17 @@ module _ (uses : List Use) (place end outer_calls : ℕ) (windowed : (a : ℕ) �
       (get_or_append_left tm.stack step.outer 0 (a - (place - total frames)) (omega (arith, above, below, high, step.bytes, step.deep)))
 
   in_windows : (a : ℕ) → IsWindowed uses a → byte_at m a ≡ task_byte tm a
-  in_windows a in =
-      let above = (windowed a in).0 in
+  in_windows a held =
+      let above = (windowed a held).0 in
       let out : is_between (task_place tm) tm.place a ≡ false = rw step.place_is (grind (arith, nat_tests, above)) in
       let at : a - (place - total frames) - total frames ≡ a - place = omega (arith, above, high, step.bytes) in
       rw (step.is, flat_byte end tm.stack step.outer (length frames + outer_calls) a, lowest, out)
       (get_or-append_right tm.stack step.outer (total frames) (a - (place - total frames)) 0 step.deep (omega (arith, above, high, step.bytes))
-      ∙ ap (λ k. slice_index step.outer k) at ∙ step.same a in)
+      ∙ ap (λ k. slice_index step.outer k) at ∙ step.same a held)
 
   given_byte : (a : ℕ) → IsGiven uses place frames a → byte_at m a ≡ task_byte tm a
   given_byte a (inl framed) = in_frames a framed.0 framed.1
-  given_byte a (inr in) = in_windows a in
+  given_byte a (inr held) = in_windows a held
 
   -- bytes that the task may use are live
   pub are_live : (address width : ℕ) → ((a : ℕ) → address ≤ a → a < address + width → IsGiven uses place frames a) → is_live m address width ≡ true

@@ -61,11 +61,11 @@ module _ (limits : Limits) (b : Body) (end outer_calls : ℕ) (windowed : (a : �
   is_inner : (base size : ℕ) → Asks b.place b.frames (Leave base size) → is_innermost (flat_memory end tm.stack step.outer calls) base size ≡ true
   is_inner base size asks =
       let more : total b.frames ≡ size + total asks.0 = ap total asks.1 ∙ total_more size asks.0 in
-      let open : length b.frames ≡ suc (length asks.0) = ap length asks.1 in
+      let opened : length b.frames ≡ suc (length asks.0) = ap length asks.1 in
       and_from (base + length (tm.stack ++ step.outer) == end) (nat_le size (length (tm.stack ++ step.outer)) && nat_lt 0 calls)
       (eq-eqb (base + length (tm.stack ++ step.outer)) end (omega (arith, asks.2, has_length, step.behind, step.bytes, high)))
       (and_from (nat_le size (length (tm.stack ++ step.outer))) (nat_lt 0 calls)
-      (le-leb size (length (tm.stack ++ step.outer)) (omega (arith, has_length, more))) (lt-ltb 0 calls (omega (arith, open))))
+      (le-leb size (length (tm.stack ++ step.outer)) (omega (arith, has_length, more))) (lt-ltb 0 calls (omega (arith, opened))))
 
   leaves_same : (base size : ℕ) → Asks b.place b.frames (Leave base size) → reply_in m (Leave base size) ≡ Says 0
   leaves_same base size asks = rw (step.is, is_inner base size asks) refl
@@ -121,8 +121,8 @@ module _ (limits : Limits) (b : Body) (end outer_calls : ℕ) (windowed : (a : �
   left_step : (base size : ℕ) (others : List ℕ) → b.frames ≡ size ∷ others → InStep b.uses b.place end outer_calls (after m (Leave base size)) (task_after tm (Leave base size)) others
   left_step base size others is =
       let more : total b.frames ≡ size + total others = ap total is ∙ total_more size others in
-      let open : length b.frames ≡ suc (length others) = ap length is in
-      let counted : calls - 1 ≡ length others + outer_calls = omega (arith, open) in
+      let opened : length b.frames ≡ suc (length others) = ap length is in
+      let counted : calls - 1 ≡ length others + outer_calls = omega (arith, opened) in
       record {
         outer = step.outer;
         is = ap (λ (m : Memory). after m (Leave base size)) step.is
@@ -132,7 +132,7 @@ module _ (limits : Limits) (b : Body) (end outer_calls : ℕ) (windowed : (a : �
         place_is = step.place_is;
         deep = omega (arith, length-drop size tm.stack, step.deep, more);
         bytes = omega (arith, step.bytes, more);
-        few = omega (arith, step.few, open);
+        few = omega (arith, step.few, opened);
         has = step.has;
         same = step.same;
       }
@@ -155,13 +155,13 @@ module _ (limits : Limits) (b : Body) (end outer_calls : ℕ) (windowed : (a : �
     deep = length-overlaid (task_place tm) tm.stack address new ∙ step.deep;
     bytes = step.bytes;
     few = step.few;
-    has = λ a in. regions_stay address new tm.regions a ∙ step.has a in;
-    same = λ a in.
-        let bounds = windowed a in in
+    has = λ a held. regions_stay address new tm.regions a ∙ step.has a held;
+    same = λ a held.
+        let bounds = windowed a held in
         let at : b.place + (a - b.place) ≡ a = omega (arith, bounds.0) in
         overlaid_byte b.place step.outer address new (a - b.place) (omega (arith, bounds.0, bounds.1, step.behind))
-        ∙ ap₂ (λ n old. new_byte address new n old) at (step.same a in)
-        ∙ sym (regions_byte address new a tm.regions (step.has a in));
+        ∙ ap₂ (λ n old. new_byte address new n old) at (step.same a held)
+        ∙ sym (regions_byte address new a tm.regions (step.has a held));
   }
 
   pub step_after : (action : Action) → Asks b.place b.frames action → first_broken (checks_of_task limits b action) ≡ None → InStep b.uses b.place end outer_calls (after m action) (task_after tm action) (frames_after b.frames action)

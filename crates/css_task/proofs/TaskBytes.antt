@@ -61,8 +61,8 @@ between_parts from to a h =
 
 module _ (address : ℕ) (new : List ℕ) (a : ℕ) where
   region_byte : (r : Region) → is_in_region r a ≡ true → slice_index (overlaid r.base r.bytes address new) (a - r.base) ≡ new_byte address new a (slice_index r.bytes (a - r.base))
-  region_byte r in =
-      let parts = between_parts r.base (r.base + length r.bytes) a in in
+  region_byte r held =
+      let parts = between_parts r.base (r.base + length r.bytes) a held in
       let at : r.base + (a - r.base) ≡ a = omega (arith, parts.0) in
       overlaid_byte r.base r.bytes address new (a - r.base) (omega (arith, parts.0, parts.1)) ∙ ap (λ n. new_byte address new n (slice_index r.bytes (a - r.base))) at
 
@@ -73,6 +73,6 @@ module _ (address : ℕ) (new : List ℕ) (a : ℕ) where
 
   -- a byte of a region, behind a store
   pub regions_byte : (regions : List Region) → is_in_regions regions a ≡ true → byte_of_regions (map (overlaid_region address new) regions) a ≡ new_byte address new a (byte_of_regions regions a)
-  regions_byte [] in = absurd (cc)
-  regions_byte (r ∷ regions) in =
-      region_or r regions (is_in_region r a) refl (λ out. regions_byte regions (ap (λ b. b || is_in_regions regions a) (sym out) ∙ in))
+  regions_byte [] held = absurd (cc)
+  regions_byte (r ∷ regions) held =
+      region_or r regions (is_in_region r a) refl (λ out. regions_byte regions (ap (λ b. b || is_in_regions regions a) (sym out) ∙ held))

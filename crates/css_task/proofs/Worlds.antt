@@ -67,8 +67,8 @@ module _ (limits : Limits) (uses : List Use) (inputs : List (List ℕ)) (place o
   module _ (windowed : (a : ℕ) → IsWindowed uses a → (place ≤ a) × (a < limits.memory)) (large : 2097152 ≤ limits.memory) (near : limits.memory ≤ place + 1048576) (few : outer_calls ≤ 32768) where
     module _ (t : Tape) (holds : Holds t) where
       windowed_here : (a : ℕ) → IsWindowed (solitude t).body.uses a → ((solitude t).body.place ≤ a) × (a < limits.memory)
-      windowed_here a in =
-          let bounds = windowed a (subst (λ us. IsWindowed us a) holds.uses_are in) in
+      windowed_here a held =
+          let bounds = windowed a (subst (λ us. IsWindowed us a) holds.uses_are held) in
           (omega (arith, bounds.0, holds.place_is), bounds.1)
 
       near_here : limits.memory ≤ (solitude t).body.place + 1048576
