@@ -84,7 +84,10 @@ fn values_are_kept(rt: HostRuntime) -> Result<(), Fail> {
     assert_eq!(rt; Line::new(7).number(), 7);
     let bytes = Bytes::new(Vec::from_slice(alloc, b"abc")?);
     assert_eq!(rt; bytes.as_slice(), b"abc".as_slice());
-    assert_eq!(rt; bytes.into_vec().as_slice(), b"abc".as_slice());
+    let ready = bytes.into_shared(alloc)?;
+    let again = ready.share()?;
+    assert_eq!(rt; ready.into_vec()?.as_slice(), b"abc".as_slice());
+    assert_eq!(rt; again.into_vec()?.as_slice(), b"abc".as_slice());
     let buffer = Buffer::new(alloc, Vec::from_slice(alloc, b"abc")?)?;
     let shared = buffer.share()?;
     drop(buffer);

@@ -4,6 +4,7 @@
 mod calls;
 mod failed;
 mod file_shelf;
+mod gate;
 mod mem_shelf;
 mod mem_sink;
 mod mem_source;
@@ -23,6 +24,7 @@ mod writing;
 
 pub use failed::Failed;
 pub use file_shelf::FileShelf;
+pub use gate::{Gate, OpenGate};
 pub use mem_shelf::MemShelf;
 pub use mem_sink::MemSink;
 pub use mem_source::MemSource;

@@ -1,8 +1,7 @@
 -- What the first bytes of a text say of a lexeme that stands there.
-use Rattle.std.proofs.Common.{◌≡◌, ℕ, ◌+◌, ◌<◌, ◌≤◌, ◌⊎◌, inl, inr, Bool, true, false, not, ◌&&◌, ◌||◌, List, [], ◌∷◌, ◌++◌, length, cond, refl, sym, ap, ◌∙◌, subst, arith, All, Contains, eqb}
-use Rattle.std.specs.Prelude.{nat_le, ◌==◌, IsTrue}
-use Rattle.std.specs.List.{list_all}
-use Rattle.std.proofs.lemmas.Bool.{false≢true, both_ways, leb-true, eqb-true, or_cases, and_parts, cond-true, cond-false, false_from_ne_true, cases_Bool, not-true, and_from, or_from}
+use Rattle.std.proofs.Common.{◌≡◌, ℕ, ◌<◌, ◌≤◌, inl, inr, true, false, ◌&&◌, ◌||◌, List, ◌∷◌, cond, refl, ◌∙◌, arith}
+use Rattle.std.specs.Prelude.{nat_le, ◌==◌}
+use Rattle.std.proofs.lemmas.Bool.{leb-true, eqb-true, or_cases, and_parts, cond-true, cond-false, false_from_ne_true}
 use Rattle.css_lex.specs.declared.lexeme_class.LexemeClass.{LexemeClass}
 use Rattle.css_lex.specs.declared.lexeme_class.LexemeClass.TheVariants as classes
 use Rattle.css_lex.specs.LineKinds.{is_blank, is_digit, is_nondigit}

@@ -1,9 +1,9 @@
 -- Comments that aren't ended, one byte at a time.
-use Rattle.std.proofs.Common.{◌≡◌, ◌≢◌, ℕ, zero, suc, ◌+◌, ◌-◌, ◌<◌, ◌≤◌, inl, inr, Bool, true, false, not, ◌&&◌, ◌||◌, List, [], ◌∷◌, ◌++◌, length, drop, take, get_or, cond, refl, sym, ap, ◌∙◌, subst, arith, length-drop, All, Option, Some, None}
+use Rattle.std.proofs.Common.{◌≡◌, ℕ, suc, ◌+◌, ◌<◌, ◌≤◌, inl, inr, Bool, true, false, not, ◌&&◌, ◌||◌, List, [], ◌∷◌, ◌++◌, length, drop, get_or, refl, sym, ap, ◌∙◌, subst, arith, All, Some, None}
 use Rattle.std.specs.Prelude.{◌==◌, nat_eq, codes, map, filter}
-use Rattle.std.proofs.lemmas.Bool.{both_ways, cond-true, cond-false, cases_Bool, cases_eq, eqb-true, eqb-false, eq-eqb, ne_eqb, and_parts, and_from, and_left, and_right, and_cases, or_left}
-use Rattle.std.proofs.lemmas.List.{drop_more, drop_all, drop-drop}
-use Rattle.std.proofs.lemmas.List.Elements.{All-nil, All-cons, All-append, All-map, All-filter, All-weaker}
+use Rattle.std.proofs.lemmas.Bool.{both_ways, cond-true, cond-false, cases_Bool, cases_eq, eqb-true, eqb-false, eq-eqb, ne_eqb, and_from, and_left, and_right, and_cases, or_left}
+use Rattle.std.proofs.lemmas.List.{drop_more, drop_all}
+use Rattle.std.proofs.lemmas.List.Elements.{All-nil, All-cons, All-map, All-filter, All-weaker}
 use Rattle.css_lex.specs.declared.breach.Breach.{Breach}
 use Rattle.css_lex.specs.declared.source.SourceByte.{SourceByte}
 use Rattle.css_base.specs.declared.static_fault.StaticName.TheVariants as names
@@ -11,11 +11,11 @@ use Rattle.css_lex.specs.Source.{splice_length, unspliced, bytes_of, begins_with
 use Rattle.css_lex.specs.Comments.{length_before}
 use Rattle.css_lex.specs.Rising.{AreBetween}
 use Rattle.css_lex.specs.Refusals.{breach, is_bad_byte, is_unended, begins_unended, bad_bytes, unended_comments, byte_breach}
-use Rattle.css_lex.specs.Found.{IsFirst, IsFound}
-use Rattle.css_lex.specs.CommentEnd.{plain_bytes, has_end, IsBehind}
-use Rattle.css_lex.proofs.Shifting.{unspliced_moved, moved_bytes, all_moved}
+use Rattle.css_lex.specs.Found.{IsFirst}
+use Rattle.css_lex.specs.CommentEnd.{plain_bytes, has_end}
+use Rattle.css_lex.proofs.Shifting.{unspliced_moved, moved_bytes}
 use Rattle.css_lex.proofs.Splices.{past_splice}
-use Rattle.css_lex.proofs.Firsts.{AllFrom, AllBehind, in_front, before_others, behind_others, from_more, from_behind}
+use Rattle.css_lex.proofs.Firsts.{AllFrom, AllBehind, in_front, before_others, behind_others, from_behind}
 use Rattle.css_lex.proofs.Places.{from_lower}
 
 -- Bytes don't hang on the place where a text stands.

@@ -41,7 +41,7 @@ filter_twice (b ∷ bytes) = by (b == 10) refl (filter_twice bytes)
     by true is twice = rw is (ap (λ z. b ∷ z) twice)
     by false is twice = twice
 
-filtered : (bytes : List ℕ) → newlines (filter (λ b. b == 10) bytes) ≡ newlines bytes
+pub filtered : (bytes : List ℕ) → newlines (filter (λ b. b == 10) bytes) ≡ newlines bytes
 filtered bytes =
     sym (length-filter (λ b. b == 10) (filter (λ b. b == 10) bytes)) ∙ ap length (filter_twice bytes) ∙ length-filter (λ b. b == 10) bytes
 

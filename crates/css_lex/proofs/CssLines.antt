@@ -1,10 +1,9 @@
 -- `#pragma css` lines.
-use Rattle.std.proofs.Common.{◌≡◌, ℕ, zero, suc, ◌+◌, ◌<◌, ◌≤◌, Bool, true, false, ◌||◌, List, [], ◌∷◌, ◌++◌, length, drop, map, cond, refl, sym, ap, ap₂, ◌∙◌, subst, arith, Option, Some, None}
-use Rattle.std.specs.Prelude.{nat_lt, flat_map, sum_by}
+use Rattle.std.proofs.Common.{◌≡◌, ℕ, ◌+◌, ◌≤◌, true, List, [], ◌∷◌, ◌++◌, length, drop, refl, sym, ap, ap₂, ◌∙◌, subst, arith, Option, Some, None}
+use Rattle.std.specs.Prelude.{nat_lt}
 use Rattle.std.proofs.lemmas.Bool.{lt-ltb, le-ltb, or_left, or_from}
 use Rattle.std.proofs.lemmas.List.Sums.{sum_by-cons}
-use Rattle.css_base.specs.declared.static_fault.StaticName.TheVariants as statics
-use Rattle.css_base.specs.Tokens.{Kind, Directive, Lexeme, At, lexemes}
+use Rattle.css_base.specs.Tokens.{Directive, Lexeme, At, lexemes}
 use Rattle.css_lex.specs.declared.breach.Breach.{Breach}
 use Rattle.css_lex.specs.declared.line.Brought.{Brought}
 use Rattle.css_lex.specs.declared.line_kind.LineKind.TheVariants as kinds
@@ -12,20 +11,18 @@ use Rattle.css_lex.specs.declared.source.SourceByte.{SourceByte}
 use Rattle.css_lex.specs.Source.{bytes_of}
 use Rattle.css_lex.specs.LineKinds.{line_kind}
 use Rattle.css_lex.specs.Lexemes.{Piece}
-use Rattle.css_lex.specs.Macros.{Table}
 use Rattle.css_lex.specs.MacroTables.{table_of}
-use Rattle.css_lex.specs.Costs.{State, Cost, costs_by}
-use Rattle.css_lex.specs.Reading.{first_place, last_end, table_by}
-use Rattle.css_lex.specs.Spelling.{line_at, tokens_of, joined, in_order}
-use Rattle.css_lex.specs.Refusals.{breach, stray_pieces, bad_constants, bad_bytes, unended_comments, overruns, line_breaches}
+use Rattle.css_lex.specs.Costs.{State, Cost}
+use Rattle.css_lex.specs.Reading.{first_place, last_end}
+use Rattle.css_lex.specs.Spelling.{line_at, joined, in_order}
+use Rattle.css_lex.specs.Refusals.{stray_pieces, bad_constants, bad_bytes, unended_comments, overruns, line_breaches}
 use Rattle.css_lex.specs.Rising.{AreBetween}
 use Rattle.css_lex.specs.Words.{words_of, failure_of}
 use Rattle.css_lex.specs.Expanded.{expanded, word_costs, tokens_among, names_among, IsHead}
 use Rattle.css_lex.specs.Found.{IsFirst, IsFound, least_of}
 use Rattle.css_lex.specs.LexState.{state_of, line_of, IsLexed}
-use Rattle.css_lex.proofs.Firsts.{AllFrom, in_front, from_more}
-use Rattle.css_lex.proofs.Late.{AreSolid, solid_lower, among, pieces_costs, passes, over_now, over_later, failure_first, overrun_first, costs_of_words, tokens_of_words, none_of_both, overruns_from, costs_from}
-use Rattle.css_lex.proofs.LineBreaches.{pieces_in, late_of, state_as, kind_found, behind_as, tokens_as, pieces_solid, drop_solid}
+use Rattle.css_lex.proofs.Late.{solid_lower, pieces_costs, passes, over_now, over_later, failure_first, overrun_first, costs_of_words, tokens_of_words, none_of_both, overruns_from, costs_from}
+use Rattle.css_lex.proofs.LineBreaches.{pieces_in, late_of, kind_found, behind_as, tokens_as, pieces_solid, drop_solid}
 use Rattle.css_lex.proofs.UndefLines.{hash_breach}
 use Rattle.css_lex.proofs.DefineLines.{behind_hash, hash_first}
 

@@ -1,12 +1,11 @@
 -- `#define` lines.
-use Rattle.std.proofs.Common.{◌≡◌, ℕ, zero, suc, ◌+◌, ◌<◌, ◌≤◌, inl, inr, Bool, true, false, not, ◌&&◌, List, [], ◌∷◌, ◌++◌, length, drop, map, cond, refl, sym, ap, ap₂, ◌∙◌, subst, arith, append_assoc, All, Option, Some, None, is_none}
+use Rattle.std.proofs.Common.{◌≡◌, ℕ, suc, ◌+◌, ◌<◌, ◌≤◌, inl, inr, Bool, true, false, not, ◌&&◌, List, [], ◌∷◌, ◌++◌, length, drop, map, cond, refl, sym, ap, ap₂, ◌∙◌, subst, arith, append_assoc, All, Option, Some, None}
 use Rattle.std.specs.Prelude.{filter_map, if◌then◌else◌}
 use Rattle.std.proofs.lemmas.Bool.{cases_Bool, both_ways, cond-true, cond-false, and_left, and_right, and_from}
 use Rattle.std.proofs.lemmas.List.{append-nil}
 use Rattle.std.specs.List.{cons_option}
 use Rattle.std.proofs.lemmas.List.Elements.{All-nil, All-tail}
-use Rattle.css_base.specs.declared.static_fault.StaticName.TheVariants as statics
-use Rattle.css_base.specs.Tokens.{Kind, Lexeme, At, lexemes}
+use Rattle.css_base.specs.Tokens.{Kind, Lexeme, lexemes}
 use Rattle.css_lex.specs.declared.breach.Breach.{Breach}
 use Rattle.css_lex.specs.declared.line.Brought.{Brought}
 use Rattle.css_lex.specs.declared.line_kind.LineKind.TheVariants as kinds
@@ -15,21 +14,20 @@ use Rattle.css_lex.specs.Source.{bytes_of}
 use Rattle.css_lex.specs.LineKinds.{line_kind}
 use Rattle.css_lex.specs.Lexemes.{Piece}
 use Rattle.css_lex.specs.Longest.{pieces_of}
-use Rattle.css_lex.specs.Macros.{Table, IsPlain, may_define, defined}
+use Rattle.css_lex.specs.Macros.{IsPlain, may_define, defined}
 use Rattle.css_lex.specs.MacroTables.{table_of}
 use Rattle.css_lex.specs.Costs.{State}
-use Rattle.css_lex.specs.Reading.{is_blank_piece, is_identifier, solid, from_solid, behind_first, kind_of_piece, place_of, end_of, first_place, Definition, definition_at, definition_of, first_bytes, with_definition, table_by}
-use Rattle.css_lex.specs.Spelling.{line_at}
-use Rattle.css_lex.specs.Refusals.{breach, is_empty, stray_pieces, bad_constants, bad_bytes, unended_comments, is_bad_definition, line_breaches}
+use Rattle.css_lex.specs.Reading.{is_blank_piece, is_identifier, solid, from_solid, behind_first, kind_of_piece, place_of, first_place, definition_at, definition_of, with_definition, table_by}
+use Rattle.css_lex.specs.Refusals.{is_empty, stray_pieces, bad_constants, bad_bytes, unended_comments, is_bad_definition, line_breaches}
 use Rattle.css_lex.specs.Rising.{AreBetween}
 use Rattle.css_lex.specs.Words.{own_breach, words_of, failure_of}
 use Rattle.css_lex.specs.Found.{IsFirst, IsFound, least_of}
-use Rattle.css_lex.specs.HashLines.{opens, word_name, kind_at, front_name, behind_name}
+use Rattle.css_lex.specs.HashLines.{opens, kind_at, front_name, behind_name}
 use Rattle.css_lex.specs.LexState.{state_of, line_of, IsLexed}
-use Rattle.css_lex.proofs.Firsts.{AllFrom, AllBehind, in_front, before_others, behind_others, from_behind, from_more}
+use Rattle.css_lex.proofs.Firsts.{AllFrom, in_front, before_others, behind_others, from_behind}
 use Rattle.css_lex.proofs.Late.{AreSolid, solid_lower, strays_from, constants_from, among, among_on, own_first, by_kind, word_some, word_none, fails_on, fails_here, none_of_both}
-use Rattle.css_lex.proofs.LineBreaches.{pieces_in, late_of, spelled_as, state_as, kind_found, behind_as, tokens_as, pieces_solid, drop_solid}
-use Rattle.css_lex.proofs.Hashes.{HasHash, has_hash, solid_from}
+use Rattle.css_lex.proofs.LineBreaches.{pieces_in, late_of, spelled_as, kind_found, behind_as, tokens_as, pieces_solid, drop_solid}
+use Rattle.css_lex.proofs.Hashes.{has_hash, solid_from}
 use Rattle.css_lex.proofs.NamedWords.{name_is, no_identifier, solid_third, words_plain}
 use Rattle.css_lex.proofs.UndefLines.{hash_breach}
 

@@ -1,8 +1,7 @@
 -- The first pieces of a `#define`.
-use Rattle.std.proofs.Common.{◌≡◌, ℕ, zero, suc, ◌+◌, ◌-◌, ◌<◌, ◌≤◌, inl, inr, Bool, true, false, not, ◌&&◌, List, [], ◌∷◌, ◌++◌, length, take, drop, get_or, map, cond, refl, sym, ap, ◌∙◌, subst, arith, length-drop}
+use Rattle.std.proofs.Common.{◌≡◌, ℕ, zero, suc, ◌+◌, ◌-◌, ◌<◌, ◌≤◌, inl, inr, true, false, ◌&&◌, List, [], ◌∷◌, length, take, drop, cond, refl, sym, ap, ◌∙◌, arith, length-drop}
 use Rattle.std.specs.Prelude.{codes, nat_eq, slice_range, ◌==◌}
-use Rattle.std.specs.List.{prefix_len}
-use Rattle.std.proofs.lemmas.Bool.{cases_Bool, cases_eq, both_ways, cond-true, cond-false, eq-eqb, ne_eqb, and_from, and_left}
+use Rattle.std.proofs.lemmas.Bool.{cases_Bool, cases_eq, cond-true, cond-false, eq-eqb, ne_eqb, and_from, and_left}
 use Rattle.std.proofs.lemmas.List.{length-map, drop-map, drop-drop, drop_more, drop_all}
 use Rattle.std.proofs.lemmas.List.Folds.{length-prefix_len}
 use Rattle.std.proofs.lemmas.List.Sums.{prefix_len-le-length}
@@ -13,14 +12,14 @@ use Rattle.css_lex.specs.Source.{begins_with, bytes_of}
 use Rattle.css_lex.specs.LineKinds.{is_blank, behind_blanks}
 use Rattle.css_lex.specs.Lexemes.{Piece}
 use Rattle.css_lex.specs.Longest.{class_at, lexeme_length, shape_at, size_at, pieces_of, pieces_from}
-use Rattle.css_lex.specs.Reading.{is_blank_piece, solid, from_solid, behind_first, first_bytes}
-use Rattle.css_lex.specs.Words.{IsPieceAt, piece_in}
+use Rattle.css_lex.specs.Reading.{is_blank_piece, from_solid, behind_first, first_bytes}
+use Rattle.css_lex.specs.Words.{IsPieceAt}
 use Rattle.css_lex.specs.HashLines.{opens}
 use Rattle.css_lex.proofs.Erasing.{at_place}
 use Rattle.css_lex.proofs.Rests.{rest_is}
 use Rattle.css_lex.proofs.WordsRead.{piece_at}
 use Rattle.css_lex.proofs.Within.{size_some}
-use Rattle.css_lex.proofs.Hashes.{blanks, blank_piece, one_more, solid_from}
+use Rattle.css_lex.proofs.Hashes.{blanks, blank_piece, one_more}
 
 full_shape : (b : ℕ) (text : List ℕ) → is_blank b ≡ false → is_blank_piece (shape_at (b ∷ text)) ≡ false
 full_shape b text full =

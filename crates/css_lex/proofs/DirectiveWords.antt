@@ -1,10 +1,10 @@
 -- A directive's words as plain data.
-use Rattle.std.proofs.Common.{◌≡◌, List, [], ◌∷◌, Vec, Global, refl, ap, ◌∙◌}
+use Rattle.std.proofs.Common.{◌≡◌, List, Vec, Global, refl, ap, ◌∙◌}
 use mathlib.Core.Former.{Count}
 use Rattle.css_base.specs.declared.token.Token.{Token}
 use Rattle.css_base.specs.declared.token.TokenKind as code
 use Rattle.css_base.specs.declared.token.TokenKind.{TokenKind, Row_of-Token, end_of-Token, more_of-Token, items-the_row-Token, items_hidden-the_row-Token-0}
-use Rattle.css_base.specs.Tokens.{Kind, Directive, Lexemes, At, End, More, kind_of, lexemes_of, lexeme, lexemes}
+use Rattle.css_base.specs.Tokens.{Directive, At, More, kind_of, lexemes_of, lexemes}
 use Rattle.css_lex.specs.Spelling.{in_order}
 
 of_row : (n : _) (row : Row_of-Token n) → lexemes_of row ≡ in_order (lexemes (items-the_row-Token n row))

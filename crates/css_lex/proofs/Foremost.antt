@@ -1,14 +1,13 @@
 -- The longest lexeme in front of a text is one, and no lexeme in front is longer.
-use Rattle.std.proofs.Common.{◌≡◌, ◌≢◌, ℕ, zero, suc, ◌+◌, ◌<◌, ◌≤◌, ◌⊎◌, inl, inr, Bool, true, false, ◌&&◌, ◌||◌, List, [], ◌∷◌, ◌++◌, length, take, cond, refl, sym, ap, ◌∙◌, subst, arith, append_assoc, length-append, ◌-◌, All, Contains}
-use Rattle.std.specs.Prelude.{◌==◌, IsTrue}
+use Rattle.std.proofs.Common.{◌≡◌, ◌≢◌, ℕ, zero, suc, ◌+◌, ◌<◌, ◌≤◌, ◌⊎◌, inl, inr, true, false, ◌&&◌, ◌||◌, List, [], ◌∷◌, ◌++◌, length, take, refl, sym, ap, ◌∙◌, subst, arith, append_assoc, length-append, ◌-◌, Contains}
+use Rattle.std.specs.Prelude.{◌==◌}
 use Rattle.std.proofs.lemmas.Bool.{false≢true, both_ways, eqb-true, or_cases, or_parts, or_left, or_right, and_parts, and_from, cond-true, cond-false, cases_Bool, cases_eq}
 use Rattle.std.specs.List.{prefix_len}
 use Rattle.std.proofs.lemmas.List.Folds.{length-prefix_len}
-use Rattle.std.proofs.lemmas.List.Elements.{All-cons}
 use Rattle.css_lex.specs.declared.lexeme_class.LexemeClass.{LexemeClass}
 use Rattle.css_lex.specs.declared.lexeme_class.LexemeClass.TheVariants as classes
 use Rattle.css_lex.specs.LineKinds.{is_blank, is_digit, is_nondigit, is_word_byte, first_word}
-use Rattle.css_lex.specs.Lexemes.{goes_on, begins_number, begins_with_digit, is_exponent, punctuators, IsNumber, IsConstant, IsBody, IsOfClass}
+use Rattle.css_lex.specs.Lexemes.{goes_on, begins_number, begins_with_digit, is_exponent, punctuators, IsConstant, IsBody, IsOfClass}
 use Rattle.css_lex.specs.Longest.{class_at, tail_length, closed_length, more_of, longest_of, length_of_class, lexeme_length}
 use Rattle.css_lex.proofs.Classes.{at_identifier, at_number, at_punctuator, at_blank}
 use Rattle.css_lex.proofs.Longest.{passing_fit, passing_pass, take_one_more, tail_fits, tail_is, more_of_some, more_of_none, body_fits, closed_is}

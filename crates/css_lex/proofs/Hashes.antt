@@ -1,21 +1,18 @@
 -- The `#` of a `#` line.
-use Rattle.std.proofs.Common.{◌≡◌, ℕ, zero, suc, ◌+◌, ◌-◌, ◌<◌, ◌≤◌, inl, inr, Bool, true, false, not, List, [], ◌∷◌, ◌++◌, length, take, drop, get_or, map, cond, refl, sym, ap, ◌∙◌, subst, arith, length-drop}
-use Rattle.std.specs.Prelude.{codes, nat_eq, slice_index, filter, ◌==◌}
+use Rattle.std.proofs.Common.{◌≡◌, ℕ, suc, ◌+◌, ◌-◌, ◌<◌, inl, inr, true, false, not, List, [], ◌∷◌, length, take, drop, refl, sym, ap, ◌∙◌, arith, length-drop}
+use Rattle.std.specs.Prelude.{codes, nat_eq}
 use Rattle.std.specs.List.{prefix_len}
-use Rattle.std.proofs.lemmas.Bool.{cases_Bool, both_ways, cond-true, cond-false, eqb-true, and_parts, false_from_ne_true}
-use Rattle.std.proofs.lemmas.List.{length-map, drop-map, drop_more}
+use Rattle.std.proofs.lemmas.Bool.{cases_Bool, both_ways, cond-true, cond-false, eqb-true, and_parts}
+use Rattle.std.proofs.lemmas.List.{drop-map, drop_more}
 use Rattle.std.proofs.lemmas.List.Folds.{length-prefix_len}
-use Rattle.std.proofs.lemmas.List.Sums.{prefix_len-le-length}
-use Rattle.css_lex.specs.declared.line_kind.LineKind.{LineKind}
 use Rattle.css_lex.specs.declared.line_kind.LineKind.TheVariants as kinds
-use Rattle.css_lex.specs.declared.pieces.Shape.{Shape}
 use Rattle.css_lex.specs.declared.pieces.Shape.TheVariants as shapes
 use Rattle.css_lex.specs.declared.source.SourceByte.{SourceByte}
 use Rattle.css_lex.specs.Source.{begins_with, bytes_of}
-use Rattle.css_lex.specs.LineKinds.{is_blank, behind_blanks, directive_kind, line_kind}
+use Rattle.css_lex.specs.LineKinds.{is_blank, behind_blanks, line_kind}
 use Rattle.css_lex.specs.Lexemes.{Piece}
 use Rattle.css_lex.specs.Longest.{shape_at, size_at, pieces_of, pieces_from}
-use Rattle.css_lex.specs.Reading.{is_blank_piece, solid, from_solid, place_of, first_place}
+use Rattle.css_lex.specs.Reading.{is_blank_piece, solid, from_solid, first_place}
 use Rattle.css_lex.proofs.Erasing.{at_place}
 use Rattle.css_lex.proofs.LineBreaches.{pieces_in}
 

@@ -1,7 +1,7 @@
 -- The first breach among the pieces of a line that are read.
-use Rattle.std.proofs.Common.{◌≡◌, ℕ, ◌+◌, ◌<◌, ◌≤◌, inl, inr, Bool, true, false, not, ◌&&◌, ◌||◌, List, [], ◌∷◌, ◌++◌, map, length, cond, refl, sym, ap, ◌∙◌, subst, arith, le_trans, append_assoc, All, Option, Some, None, is_none, option_map}
+use Rattle.std.proofs.Common.{◌≡◌, ℕ, ◌+◌, ◌≤◌, inl, inr, Bool, true, false, ◌&&◌, ◌||◌, List, [], ◌∷◌, ◌++◌, map, length, refl, sym, ap, ◌∙◌, subst, arith, le_trans, All, Option, Some, None, is_none}
 use Rattle.std.specs.Prelude.{nat_lt, flat_map, filter}
-use Rattle.std.proofs.lemmas.Bool.{both_ways, cond-true, cond-false, cases_Bool, ltb-true, ltb-false, and_from, and_left, and_right, or_parts, or_cases}
+use Rattle.std.proofs.lemmas.Bool.{both_ways, cond-true, cond-false, cases_Bool, ltb-true, ltb-false, and_from, and_right}
 use Rattle.std.proofs.lemmas.List.{append-nil}
 use Rattle.std.proofs.lemmas.List.Elements.{All-nil, All-cons, All-head, All-tail, All-append, All-map, All-filter, All-weaker}
 use Rattle.css_base.specs.declared.static_fault.StaticName.TheVariants as statics
@@ -15,9 +15,9 @@ use Rattle.css_lex.specs.Reading.{is_blank_piece, kind_of_piece, place_of, end_o
 use Rattle.css_lex.specs.Costs.{Cost, piece_costs}
 use Rattle.css_lex.specs.Spelling.{line_at, tokens_of}
 use Rattle.css_lex.specs.Refusals.{breach, is_stray, is_lexeme, stray_pieces, bad_constants, overruns}
-use Rattle.css_lex.specs.Words.{word_of, own_breach, words_of, failure_of}
+use Rattle.css_lex.specs.Words.{own_breach, words_of, failure_of}
 use Rattle.css_lex.specs.Found.{IsFirst, IsFound, least_of}
-use Rattle.css_lex.specs.Expanded.{replaced_word, expanded, word_cost, word_costs, IsHead}
+use Rattle.css_lex.specs.Expanded.{expanded, word_costs, IsHead}
 use Rattle.css_lex.proofs.Firsts.{AllFrom, AllBehind, in_front, before_others, behind_others, all_from, from_more, from_behind, behind_from}
 
 -- Pieces that aren't white space, in order of their places.

@@ -18,6 +18,8 @@ pub mod Foremost
 pub mod Within
 pub mod LinePieces
 pub mod Escapes
+pub mod Numbering
+pub mod Listing
 pub mod MacroTables
 pub mod Spelled
 pub mod WordsRead
@@ -43,3 +45,11 @@ pub mod CssLines
 pub mod BreachPlaces
 pub mod TextRead
 pub mod Readings
+pub mod Pairwise
+pub mod Alike
+pub mod PlainTables
+pub mod AlikeTokens
+pub mod EndedComments
+pub mod AlikeLines
+pub mod LeftLines
+pub mod OtherTokens

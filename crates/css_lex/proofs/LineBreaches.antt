@@ -1,13 +1,11 @@
 -- The breaches of a line by its kind.
-use Rattle.std.proofs.Common.{◌≡◌, ℕ, zero, suc, ◌+◌, ◌-◌, ◌<◌, ◌≤◌, inl, inr, Bool, true, false, not, List, [], ◌∷◌, ◌++◌, length, take, drop, cond, refl, sym, ap, ◌∙◌, subst, arith, le_trans, append_assoc, All, Option, Some, None}
-use Rattle.std.specs.Prelude.{slice_index, map, if◌then◌else◌, sum_by, filter}
+use Rattle.std.proofs.Common.{◌≡◌, ℕ, zero, suc, ◌+◌, ◌-◌, ◌<◌, inl, inr, Bool, not, List, [], ◌∷◌, ◌++◌, take, drop, refl, sym, ap, ◌∙◌, subst, arith, append_assoc, All, Option}
+use Rattle.std.specs.Prelude.{slice_index, map, if◌then◌else◌, sum_by}
 use Rattle.std.proofs.lemmas.Bool.{cases_Bool, cond-true, cond-false}
 use Rattle.std.proofs.lemmas.List.Elements.{All-nil, All-cons}
 use Rattle.css_base.specs.declared.static_fault.StaticName.TheVariants as statics
-use Rattle.css_base.specs.Tokens.{Lexeme}
 use Rattle.css_lex.specs.declared.breach.Breach.{Breach}
 use Rattle.css_lex.specs.declared.line_kind.LineKind.{LineKind}
-use Rattle.css_lex.specs.declared.line_kind.LineKind.TheVariants as kinds
 use Rattle.css_lex.specs.declared.source.SourceByte.{SourceByte}
 use Rattle.css_lex.specs.Source.{bytes_of}
 use Rattle.css_lex.specs.LineKinds.{line_kind}
@@ -15,11 +13,11 @@ use Rattle.css_lex.specs.Lexemes.{Piece}
 use Rattle.css_lex.specs.Longest.{pieces_of, pieces_from, shape_at, size_at}
 use Rattle.css_lex.specs.Macros.{Table}
 use Rattle.css_lex.specs.Reading.{is_blank_piece, solid, read_by, place_of, first_place, table_by}
-use Rattle.css_lex.specs.Costs.{State, Cost, costs_by, state_behind}
+use Rattle.css_lex.specs.Costs.{State, costs_by, state_behind}
 use Rattle.css_lex.specs.Spelling.{tokens_by, tokens_of_line}
 use Rattle.css_lex.specs.Refusals.{breach, bad_bytes, unended_comments, stray_pieces, bad_constants, overruns, is_empty, is_malformed, line_breaches}
 use Rattle.css_lex.specs.Rising.{AreBetween}
-use Rattle.css_lex.specs.Found.{IsFirst, IsFound, least_of}
+use Rattle.css_lex.specs.Found.{IsFound, least_of}
 use Rattle.css_lex.specs.LexState.{line_of}
 use Rattle.css_lex.proofs.Late.{AreSolid, solid_lower, both_found}
 use Rattle.css_lex.proofs.Places.{from_lower}

@@ -1,11 +1,10 @@
 -- The end of a line's last solid piece, one piece at a time.
-use Rattle.std.proofs.Common.{◌≡◌, ℕ, ◌+◌, ◌-◌, ◌<◌, ◌≤◌, Bool, true, false, not, List, [], ◌∷◌, length, drop, refl, sym, ap, ◌∙◌, subst}
+use Rattle.std.proofs.Common.{◌≡◌, ℕ, ◌+◌, ◌-◌, ◌≤◌, true, false, not, List, [], ◌∷◌, length, drop, refl, ap, ◌∙◌}
 use Rattle.std.proofs.lemmas.Bool.{cond-true, cond-false}
 use Rattle.std.proofs.lemmas.List.{drop_all}
 use Rattle.css_lex.specs.declared.pieces.Shape.{Shape}
 use Rattle.css_lex.specs.declared.source.SourceByte.{SourceByte}
 use Rattle.css_lex.specs.Lexemes.{Piece}
-use Rattle.css_lex.specs.Longest.{pieces_of}
 use Rattle.css_lex.specs.Reading.{is_blank_piece, solid, end_of, last_end}
 use Rattle.css_lex.specs.Words.{IsPieceAt, piece_in}
 use Rattle.css_lex.proofs.Erasing.{at_place}

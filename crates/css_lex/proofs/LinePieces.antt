@@ -1,8 +1,8 @@
 -- Each line has pieces, and has them once.
-use Rattle.std.proofs.Common.{◌≡◌, ℕ, zero, suc, ◌+◌, ◌-◌, ◌<◌, ◌≤◌, ◌⊎◌, inl, inr, max, Bool, true, false, List, [], ◌∷◌, ◌++◌, length, take, drop, map, cond, refl, sym, ap, ◌∙◌, subst, arith, append_assoc, length-append, length-take, length-drop, take-append-drop}
+use Rattle.std.proofs.Common.{◌≡◌, ℕ, zero, suc, ◌-◌, ◌<◌, ◌≤◌, inl, inr, max, true, false, List, [], ◌∷◌, ◌++◌, length, take, drop, refl, sym, ap, ◌∙◌, subst, arith, append_assoc, length-append, length-take, take-append-drop}
 use Rattle.std.specs.Prelude.{◌==◌}
-use Rattle.std.proofs.lemmas.Bool.{cases_Bool, cases_eq, cond-true, cond-false, both_ways, eq-eqb, ne_eqb, false_from_ne_true}
-use Rattle.std.proofs.lemmas.List.{length-map, take_at, drop_at, take-append-le, length-take-le, nil_from_length, map-append, take-map, drop-map}
+use Rattle.std.proofs.lemmas.Bool.{cases_Bool, cases_eq, cond-true, cond-false, eq-eqb, ne_eqb, false_from_ne_true}
+use Rattle.std.proofs.lemmas.List.{length-map, take_at, drop_at, length-take-le, nil_from_length, map-append, take-map, drop-map}
 use Rattle.css_lex.specs.declared.lexeme_class.LexemeClass.{LexemeClass}
 use Rattle.css_lex.specs.declared.lexeme_class.LexemeClass.TheVariants as classes
 use Rattle.css_lex.specs.declared.pieces.Shape.{Shape}
@@ -10,11 +10,11 @@ use Rattle.css_lex.specs.declared.pieces.Shape.TheVariants as shapes
 use Rattle.css_lex.specs.declared.source.SourceByte.{SourceByte}
 use Rattle.css_lex.specs.Source.{bytes_of}
 use Rattle.css_lex.specs.LineKinds.{is_blank}
-use Rattle.css_lex.specs.Lexemes.{IsOfClass, IsLexeme, IsLongest, IsNoFront, HasShape, ConsistsOf, Piece}
+use Rattle.css_lex.specs.Lexemes.{IsOfClass, IsLongest, IsNoFront, HasShape, ConsistsOf, Piece}
 use Rattle.css_lex.specs.Longest.{class_at, lexeme_length, shape_at, size_at, pieces_from, pieces_of}
-use Rattle.css_lex.proofs.Foremost.{Fits, fits, is_one, blank_none}
+use Rattle.css_lex.proofs.Foremost.{fits, is_one, blank_none}
 use Rattle.css_lex.proofs.Punctuators.{punctuator_some}
-use Rattle.css_lex.proofs.Within.{lexeme_within, size_within, size_some}
+use Rattle.css_lex.proofs.Within.{lexeme_within, size_some}
 
 lexeme_some : (class : LexemeClass) → IsOfClass class [] → ⊥
 lexeme_some classes.Identifier is = is

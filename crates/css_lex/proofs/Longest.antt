@@ -1,13 +1,11 @@
 -- The length of the longest lexeme of each class.
-use Rattle.std.proofs.Common.{◌≡◌, ◌≢◌, ℕ, zero, suc, ◌+◌, ◌-◌, ◌<◌, ◌≤◌, ◌⊎◌, inl, inr, max, Bool, true, false, not, ◌&&◌, ◌||◌, List, [], ◌∷◌, ◌++◌, length, take, drop, cond, refl, sym, ap, ◌∙◌, subst, arith, All, Contains, eqb, length-append}
-use Rattle.std.specs.Prelude.{nat_le, nat_eq, ◌==◌, IsTrue, take_while}
-use Rattle.std.specs.List.{list_all, prefix_len}
-use Rattle.std.proofs.lemmas.Bool.{false≢true, both_ways, leb-true, eqb-true, eqb-false, cases_eq, eq-eqb, ne_eqb, or_cases, and_parts, cond-true, cond-false, false_from_ne_true, cases_Bool, not-true, and_from, or_from}
-use Rattle.std.proofs.lemmas.List.Elements.{All-nil, All-cons, All-head, All-tail, All-weaker, All-contains}
+use Rattle.std.proofs.Common.{◌≡◌, ◌≢◌, ℕ, suc, ◌+◌, ◌<◌, ◌≤◌, inl, inr, Bool, true, false, not, ◌&&◌, List, [], ◌∷◌, ◌++◌, length, take, refl, sym, ap, ◌∙◌, subst, arith, All}
+use Rattle.std.specs.Prelude.{◌==◌, IsTrue, take_while}
+use Rattle.std.proofs.lemmas.Bool.{both_ways, eqb-true, eqb-false, cases_eq, eq-eqb, ne_eqb, and_parts, cond-true, cond-false, false_from_ne_true, cases_Bool, not-true, and_from}
+use Rattle.std.proofs.lemmas.List.Elements.{All-nil, All-cons, All-head, All-tail}
 use Rattle.std.proofs.lemmas.List.Sums.{take_while-cons}
-use Rattle.css_lex.specs.Source.{begins_with}
 use Rattle.css_lex.specs.Lexemes.{goes_on, IsNumberTail, IsBody}
-use Rattle.css_lex.specs.Longest.{tail_length, more_of, closed_length, longest_of}
+use Rattle.css_lex.specs.Longest.{tail_length, more_of, closed_length}
 
 -- Bytes that all pass a test are no more than those that pass in front.
 pub passing_fit : (p : ℕ → Bool) (front rest : List ℕ) → All (λ c. IsTrue (p c)) front → length front ≤ length (take_while p (front ++ rest))

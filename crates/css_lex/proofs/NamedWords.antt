@@ -1,26 +1,23 @@
 -- Names among the words of a line.
-use Rattle.std.proofs.Common.{◌≡◌, ℕ, zero, suc, ◌+◌, inl, inr, Bool, true, false, not, ◌&&◌, ◌||◌, List, [], ◌∷◌, ◌++◌, length, take, drop, map, cond, refl, sym, ap, ◌∙◌, subst, All, Option, Some, None, option_map, option_and_then}
-use Rattle.std.specs.Prelude.{codes, filter, filter_map, ◌==◌, if◌then◌else◌}
-use Rattle.std.proofs.lemmas.Bool.{cases_Bool, both_ways, cond-true, cond-false, cond_both}
+use Rattle.std.proofs.Common.{◌≡◌, ℕ, inl, inr, Bool, false, not, ◌||◌, List, [], ◌∷◌, length, drop, cond, refl, sym, ap, ◌∙◌, subst, All, Option, Some, None, option_map, option_and_then}
+use Rattle.std.specs.Prelude.{codes, ◌==◌, if◌then◌else◌}
+use Rattle.std.proofs.lemmas.Bool.{cases_Bool, cond-true, cond-false, cond_both}
 use Rattle.std.proofs.lemmas.List.{drop-drop}
 use Rattle.std.proofs.lemmas.List.Elements.{All-nil, All-cons}
 use Rattle.css_base.specs.declared.int_type.IntType.{IntType}
-use Rattle.css_base.specs.Tokens.{Kind, Word, Number, Character, Text, Punctuator, Directive, Lexeme, At}
-use Rattle.css_lex.specs.declared.breach.Breach.{Breach}
-use Rattle.css_lex.specs.declared.lexeme_class.LexemeClass.{LexemeClass}
+use Rattle.css_base.specs.Tokens.{Kind, Word, Number, Character, Text, Punctuator, At}
 use Rattle.css_lex.specs.declared.lexeme_class.LexemeClass.TheVariants as classes
 use Rattle.css_lex.specs.declared.pieces.Shape.{Shape}
 use Rattle.css_lex.specs.declared.pieces.Shape.TheVariants as shapes
 use Rattle.css_lex.specs.declared.values.Suffix.{Suffix}
 use Rattle.css_lex.specs.Source.{begins_with, bytes_of}
 use Rattle.css_lex.specs.Lexemes.{Piece}
-use Rattle.css_lex.specs.Values.{is_digit_in, digits_in, value_in, suffixes, suffix_in, candidates, first_type, constant_in, number_in, integer_constant, characters, between_quotes, one_character, kind_of_lexeme}
+use Rattle.css_lex.specs.Values.{digits_in, value_in, suffixes, suffix_in, candidates, first_type, constant_in, number_in, integer_constant, characters, between_quotes, one_character}
 use Rattle.css_lex.specs.Macros.{IsPlain}
-use Rattle.css_lex.specs.Reading.{is_blank_piece, is_identifier, solid, from_solid, behind_first, kind_in, kind_of_piece, place_of, end_of, undefined_at, undefined_of, Definition, definition_at, definition_of, first_bytes}
+use Rattle.css_lex.specs.Reading.{is_blank_piece, is_identifier, solid, from_solid, behind_first, kind_in, place_of, end_of, undefined_at, undefined_of}
 use Rattle.css_lex.specs.Spelling.{line_at}
-use Rattle.css_lex.specs.Words.{word_of, own_breach, words_of, failure_of}
-use Rattle.css_lex.specs.HashLines.{opens, word_name, kind_at, only_name, front_name, behind_name}
-use Rattle.css_lex.proofs.Hashes.{solid_from}
+use Rattle.css_lex.specs.Words.{words_of, failure_of}
+use Rattle.css_lex.specs.HashLines.{word_name, kind_at, only_name}
 use Rattle.css_lex.proofs.Late.{by_kind, word_some, word_none, fails_on, fails_here}
 
 -- What a lexeme that is no identifier stands for: no name, and no directive.

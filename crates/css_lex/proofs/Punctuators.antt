@@ -1,7 +1,6 @@
 -- Punctuators in front of a text.
-use Rattle.std.proofs.Common.{◌≡◌, ◌≢◌, ℕ, zero, suc, ◌+◌, ◌-◌, ◌<◌, ◌≤◌, ◌⊎◌, inl, inr, max, Bool, true, false, not, ◌&&◌, ◌||◌, List, [], ◌∷◌, ◌++◌, length, take, drop, cond, refl, sym, ap, ◌∙◌, subst, arith, le_trans, All, Contains, Decides, IsTrue}
-use Rattle.std.specs.Prelude.{nat_eq, bytes_eq, ◌==◌}
-use Rattle.std.specs.List.{list_all}
+use Rattle.std.proofs.Common.{◌≡◌, ℕ, ◌<◌, ◌≤◌, inl, inr, max, Bool, true, false, not, ◌&&◌, List, [], ◌∷◌, ◌++◌, length, take, drop, refl, sym, ap, ◌∙◌, subst, arith, le_trans, All, Contains}
+use Rattle.std.specs.Prelude.{◌==◌}
 use Rattle.std.proofs.lemmas.Bool.{both_ways, and_parts, cond-true, cond-false, cases_Bool, not-true, cases_lt}
 use Rattle.std.proofs.lemmas.Bool.Decides.{Decides-eqb}
 use Rattle.std.proofs.lemmas.Slice.Eq.{starts_is}
@@ -9,8 +8,8 @@ use Rattle.std.proofs.lemmas.List.{take_at}
 use Rattle.std.proofs.lemmas.List.Sums.{AllPass-from_list_all}
 use Rattle.std.proofs.lemmas.List.Elements.{All-nil, All-cons, All-weaker, All-contains, Contains-append_right}
 use Rattle.css_lex.specs.Source.{begins_with}
-use Rattle.css_lex.specs.LineKinds.{is_blank, is_digit, is_nondigit}
-use Rattle.css_lex.specs.Lexemes.{begins_number, begins_with_digit, punctuators}
+use Rattle.css_lex.specs.LineKinds.{is_blank, is_nondigit}
+use Rattle.css_lex.specs.Lexemes.{begins_number, punctuators}
 use Rattle.css_lex.specs.Longest.{longest_of}
 
 -- A text begins with its front.

@@ -1,5 +1,5 @@
 -- What a part of a line spells.
-use Rattle.std.proofs.Common.{◌≡◌, ℕ, zero, suc, ◌+◌, ◌-◌, ◌<◌, ◌≤◌, List, [], ◌∷◌, ◌++◌, length, get_or, take, drop, map, refl, sym, ap, ◌∙◌, arith, length-drop, Option, Some, None, option_map}
+use Rattle.std.proofs.Common.{◌≡◌, ℕ, zero, suc, ◌+◌, ◌-◌, ◌<◌, ◌≤◌, List, [], ◌∷◌, ◌++◌, length, get_or, take, drop, map, refl, sym, ap, ◌∙◌, arith, length-drop, Some, None, option_map}
 use Rattle.std.specs.Prelude.{slice_range, slice_index, length}
 use Rattle.std.proofs.lemmas.List.{take-map, drop-map, drop_more, take_more, get_or-drop}
 use Rattle.css_base.specs.Tokens.{Kind, Lexeme, At}

@@ -1,7 +1,7 @@
 -- Strings that are joined one token at a time.
-use Rattle.std.proofs.Common.{◌≡◌, ℕ, Bool, true, false, not, ◌&&◌, List, [], ◌∷◌, ◌++◌, refl, sym, ap, ◌∙◌, subst, append_assoc}
+use Rattle.std.proofs.Common.{◌≡◌, ℕ, Bool, true, false, ◌&&◌, List, [], ◌∷◌, ◌++◌, refl, sym, ap, ◌∙◌, subst, append_assoc}
 use Rattle.std.proofs.lemmas.List.{append-nil}
-use Rattle.css_base.specs.Tokens.{Kind, Word, Number, Character, Text, Punctuator, Directive, Lexeme, At}
+use Rattle.css_base.specs.Tokens.{Word, Number, Character, Text, Punctuator, Directive, Lexeme, At}
 use Rattle.css_lex.specs.Spelling.{join, joined}
 use Rattle.css_lex.specs.Joining.{joined_behind}
 

@@ -1,5 +1,5 @@
 -- Lines that are no `#` lines.
-use Rattle.std.proofs.Common.{◌≡◌, ℕ, ◌+◌, List, [], ◌∷◌, ◌++◌, length, drop, refl, sym, ap, ap₂, ◌∙◌, subst, Option, Some, None}
+use Rattle.std.proofs.Common.{◌≡◌, ℕ, ◌+◌, List, [], ◌++◌, length, sym, ap, ap₂, ◌∙◌, subst, Option, Some, None}
 use Rattle.css_base.specs.Tokens.{Lexeme, lexemes}
 use Rattle.css_lex.specs.declared.breach.Breach.{Breach}
 use Rattle.css_lex.specs.declared.line.Brought.{Brought}
@@ -7,17 +7,15 @@ use Rattle.css_lex.specs.declared.line_kind.LineKind.TheVariants as kinds
 use Rattle.css_lex.specs.declared.source.SourceByte.{SourceByte}
 use Rattle.css_lex.specs.Source.{bytes_of}
 use Rattle.css_lex.specs.LineKinds.{line_kind}
-use Rattle.css_lex.specs.Macros.{Table}
 use Rattle.css_lex.specs.MacroTables.{table_of}
-use Rattle.css_lex.specs.Costs.{State, Cost, state_behind}
-use Rattle.css_lex.specs.Spelling.{tokens_of_line}
+use Rattle.css_lex.specs.Costs.{State}
 use Rattle.css_lex.specs.Refusals.{bad_bytes, unended_comments, overruns, line_breaches}
 use Rattle.css_lex.specs.Rising.{AreBetween}
 use Rattle.css_lex.specs.Words.{words_of, failure_of}
 use Rattle.css_lex.specs.Expanded.{expanded, word_costs, tokens_among, names_among, IsHead}
-use Rattle.css_lex.specs.Found.{IsFirst, IsFound, least_of}
+use Rattle.css_lex.specs.Found.{IsFound, least_of}
 use Rattle.css_lex.specs.LexState.{state_of, line_of, IsLexed}
-use Rattle.css_lex.proofs.Late.{pieces_costs, failure_first, overrun_first, costs_of_words, tokens_of_words, none_of_both}
+use Rattle.css_lex.proofs.Late.{failure_first, overrun_first, costs_of_words, tokens_of_words, none_of_both}
 use Rattle.css_lex.proofs.LineBreaches.{pieces_in, kind_found, behind_as, tokens_as, pieces_solid}
 
 -- The words of the line.

@@ -1,13 +1,13 @@
 -- The lines of a text, one byte at a time.
-use Rattle.std.proofs.Common.{◌≡◌, ℕ, ◌+◌, ◌<◌, ◌≤◌, inl, inr, List, [], ◌∷◌, ◌++◌, length, drop, map, refl, sym, ap, ap₂, ◌∙◌, subst, arith, le_trans, append_assoc, All}
+use Rattle.std.proofs.Common.{◌≡◌, ℕ, ◌+◌, ◌<◌, ◌≤◌, inl, inr, List, [], ◌∷◌, ◌++◌, length, drop, map, sym, ap, ap₂, ◌∙◌, subst, arith, append_assoc, All}
 use Rattle.std.proofs.lemmas.List.{append-nil, drop_all}
-use Rattle.std.proofs.lemmas.List.Elements.{All-nil, All-cons, All-append, All-push, All-weaker, All-get_or, All-head, All-tail}
+use Rattle.std.proofs.lemmas.List.Elements.{All-nil, All-append, All-push, All-weaker, All-head, All-tail}
 use Rattle.std.proofs.lemmas.Bool.{cases_eq}
 use Rattle.css_base.specs.Tokens.{Lexeme, lexemes}
 use Rattle.css_lex.specs.declared.breach.Breach.{Breach}
 use Rattle.css_lex.specs.declared.line.Brought.{Brought}
 use Rattle.css_lex.specs.declared.source.SourceByte.{SourceByte}
-use Rattle.css_lex.specs.Lines.{LogicalLine, lines_from, shown_bytes, logical_lines}
+use Rattle.css_lex.specs.Lines.{lines_from, shown_bytes}
 use Rattle.css_lex.specs.MacroTables.{table_of}
 use Rattle.css_lex.specs.Reading.{ReadLine}
 use Rattle.css_lex.specs.Costs.{State, state_behind, at_start, over_lines}
@@ -17,7 +17,7 @@ use Rattle.css_lex.specs.Rising.{AreBetween}
 use Rattle.css_lex.specs.Found.{IsFirst}
 use Rattle.css_lex.specs.LexState.{state_of, line_of, with_pieces, read_lines, IsLexed, IsWhole}
 use Rattle.css_lex.proofs.Erasing.{at_place, rest_at, newline_line, other_line}
-use Rattle.css_lex.proofs.Places.{from_lower, shown_between}
+use Rattle.css_lex.proofs.Places.{shown_between}
 use Rattle.css_lex.proofs.CommentBytes.{between_from}
 use Rattle.css_lex.proofs.Firsts.{AllFrom, before_others}
 use Rattle.css_lex.proofs.BreachPlaces.{of_line}

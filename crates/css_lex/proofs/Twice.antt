@@ -16,12 +16,12 @@ use Rattle.css_lex.proofs.Shifting.{all_moved, unspliced_moved, uncommented_move
 use Rattle.css_lex.proofs.SpliceCuts.{LineCut, line_cut}
 
 -- None of the bytes is a newline.
-abbrev IsOneLine : List SourceByte → Type 0
+abbrev pub IsOneLine : List SourceByte → Type 0
 IsOneLine [] = Unit {0}
 IsOneLine (c ∷ bytes) = (c.byte ≡ 10 → ⊥) × IsOneLine bytes
 
 -- The first newline of some bytes.
-record FirstNewline (bytes : List SourceByte) : Type 0 where
+pub record FirstNewline (bytes : List SourceByte) : Type 0 where
   pub out : List SourceByte
   pub nl : SourceByte
   pub rest : List SourceByte
@@ -29,7 +29,7 @@ record FirstNewline (bytes : List SourceByte) : Type 0 where
   pub newline : nl.byte ≡ 10
   pub before : IsOneLine out
 
-first_newline : (bytes : List SourceByte) → IsOneLine bytes ⊎ FirstNewline bytes
+pub first_newline : (bytes : List SourceByte) → IsOneLine bytes ⊎ FirstNewline bytes
 first_newline [] = inl tt
 first_newline (c ∷ bytes) =
     elim (eqb_tells c.byte 10) [
@@ -59,14 +59,14 @@ from_start : (text : List ℕ) (n : ℕ) → slice_range text 0 n ≡ take n tex
 from_start text n = ap (λ k. take k text) (omega arith)
 
 -- A text of one line.
-erased_one : (text : List ℕ) → IsOneLine (shown_bytes text) → erased text ≡ kept_of (line_kind (bytes_of (shown_bytes text))) text
+pub erased_one : (text : List ℕ) → IsOneLine (shown_bytes text) → erased text ≡ kept_of (line_kind (bytes_of (shown_bytes text))) text
 erased_one text one =
     ap (left_of text) (one_line 0 (length text) [] (shown_bytes text) one)
     ∙ append-nil (kept_of (line_kind (bytes_of (shown_bytes text))) (slice_range text 0 (length text)))
     ∙ ap (kept_of (line_kind (bytes_of (shown_bytes text)))) (from_start text (length text) ∙ take-length text)
 
 -- A text's first line, and what follows it.
-erased_first : (text : List ℕ) (out : List SourceByte) (nl : SourceByte) (l : LineCut text out nl) → IsOneLine out → nl.byte ≡ 10 → (others : List ℕ)
+pub erased_first : (text : List ℕ) (out : List SourceByte) (nl : SourceByte) (l : LineCut text out nl) → IsOneLine out → nl.byte ≡ 10 → (others : List ℕ)
     → erased (l.before ++ 10 ∷ others) ≡ kept_of (line_kind (bytes_of out)) (l.before ++ 10 ∷ []) ++ erased others
 erased_first text out nl l one newline others =
     subst (λ w. left_of w (lines_from 0 (length w) [] (shown_bytes (l.before ++ 10 ∷ others))) ≡ kept_of (line_kind (bytes_of out)) front ++ erased others) whole
@@ -109,7 +109,7 @@ erased_newline : (others : List ℕ) → erased (10 ∷ others) ≡ 10 ∷ erase
 unfolding newline_cut
 erased_newline others = erased_first (10 ∷ []) [] (record { byte = 10; place = 0 }) newline_cut tt refl others
 
-abbrev newlines_of : List ℕ → List ℕ
+abbrev pub newlines_of : List ℕ → List ℕ
 newlines_of part = filter (λ b. b == 10) part
 
 erased_newlines_first : (part others : List ℕ) → erased (newlines_of part ++ others) ≡ newlines_of part ++ erased others
@@ -128,7 +128,7 @@ newlines_alone : (part : List ℕ) → erased (newlines_of part) ≡ newlines_of
 newlines_alone part =
     ap erased (sym (append-nil (newlines_of part))) ∙ erased_newlines_first part [] ∙ append-nil (newlines_of part)
 
-kept_by : (kind : LineKind) (part : List ℕ) (css : Bool) → is_css kind ≡ css → kept_of kind part ≡ cond css (newlines_of part) part
+pub kept_by : (kind : LineKind) (part : List ℕ) (css : Bool) → is_css kind ≡ css → kept_of kind part ≡ cond css (newlines_of part) part
 kept_by kind part css is = ap (λ c. cond c (newlines_of part) part) is
 
 twice_one : (text : List ℕ) (css : Bool) → erased text ≡ cond css (newlines_of text) text → erased (erased text) ≡ erased text

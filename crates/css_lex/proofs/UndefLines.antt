@@ -1,9 +1,9 @@
 -- `#undef` lines.
-use Rattle.std.proofs.Common.{◌≡◌, ℕ, ◌+◌, ◌<◌, ◌≤◌, Bool, true, false, List, [], ◌∷◌, ◌++◌, length, drop, cond, refl, sym, ap, ap₂, ◌∙◌, subst, arith, Option, Some, None, is_none}
+use Rattle.std.proofs.Common.{◌≡◌, ℕ, ◌+◌, ◌≤◌, true, List, [], ◌∷◌, ◌++◌, drop, cond, refl, sym, ap, ap₂, ◌∙◌, subst, arith, Option, Some, None, is_none}
 use Rattle.std.proofs.lemmas.List.{append-nil}
 use Rattle.std.proofs.lemmas.List.Elements.{All-nil}
 use Rattle.css_base.specs.declared.static_fault.StaticName.TheVariants as statics
-use Rattle.css_base.specs.Tokens.{Lexeme, lexemes}
+use Rattle.css_base.specs.Tokens.{lexemes}
 use Rattle.css_lex.specs.declared.breach.Breach.{Breach}
 use Rattle.css_lex.specs.declared.line.Brought.{Brought}
 use Rattle.css_lex.specs.declared.line_kind.LineKind.{LineKind}
@@ -14,7 +14,7 @@ use Rattle.css_lex.specs.LineKinds.{line_kind}
 use Rattle.css_lex.specs.Longest.{pieces_of}
 use Rattle.css_lex.specs.Macros.{Table, undefined}
 use Rattle.css_lex.specs.MacroTables.{table_of}
-use Rattle.css_lex.specs.Costs.{State, costs_by}
+use Rattle.css_lex.specs.Costs.{State}
 use Rattle.css_lex.specs.Reading.{first_place, undefined_of, table_by, without_name}
 use Rattle.css_lex.specs.Spelling.{tokens_by}
 use Rattle.css_lex.specs.Refusals.{breach, bad_bytes, unended_comments, line_breaches}

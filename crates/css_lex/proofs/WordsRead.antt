@@ -1,11 +1,10 @@
 -- The words of a line, one piece at a time.
-use Rattle.std.proofs.Common.{◌≡◌, ℕ, zero, suc, ◌+◌, ◌-◌, ◌<◌, ◌≤◌, Bool, true, false, not, ◌&&◌, List, [], ◌∷◌, ◌++◌, length, take, drop, cond, inl, inr, refl, sym, ap, ◌∙◌, subst, arith, append_assoc, length-drop, Option, Some, None, option_map}
+use Rattle.std.proofs.Common.{◌≡◌, ℕ, zero, suc, ◌+◌, ◌-◌, ◌<◌, ◌≤◌, true, false, not, List, [], ◌∷◌, ◌++◌, length, take, drop, inl, inr, refl, sym, ap, ◌∙◌, arith, append_assoc, length-drop, Option, Some, None, option_map}
 use Rattle.std.specs.Prelude.{slice_range, ◌==◌}
-use Rattle.std.proofs.lemmas.Bool.{and_parts, and_cases, both_ways, cond-true, cond-false, eqb-true, eqb-false, not-true, cases_Bool, ne_eqb}
-use Rattle.std.proofs.lemmas.List.{length-map, drop-map, drop-drop, drop_more, drop_all, append-nil}
+use Rattle.std.proofs.lemmas.Bool.{and_parts, and_cases, both_ways, cond-true, cond-false, eqb-true, eqb-false, not-true, cases_Bool}
+use Rattle.std.proofs.lemmas.List.{length-map, drop-map, drop-drop, drop_all, append-nil}
 use Rattle.css_base.specs.Tokens.{Kind, Lexeme, At}
 use Rattle.css_lex.specs.declared.pieces.Shape.{Shape}
-use Rattle.css_lex.specs.declared.pieces.Shape.TheVariants as shapes
 use Rattle.css_lex.specs.declared.source.SourceByte.{SourceByte}
 use Rattle.css_lex.specs.Source.{bytes_of}
 use Rattle.css_lex.specs.Lexemes.{Piece}
@@ -13,7 +12,6 @@ use Rattle.css_lex.specs.Longest.{shape_at, size_at, pieces_of, pieces_from}
 use Rattle.css_lex.specs.Reading.{is_blank_piece, solid, kind_of_piece, place_of, end_of}
 use Rattle.css_lex.specs.Spelling.{line_at}
 use Rattle.css_lex.specs.Words.{IsPieceAt, piece_in, word_of, own_breach, words_of, failure_of, is_kept, skip_behind}
-use Rattle.css_lex.proofs.Erasing.{at_place}
 use Rattle.css_lex.proofs.Rests.{rest_is}
 use Rattle.css_lex.proofs.LinePieces.{pieces_behind, drop_first}
 use Rattle.css_lex.proofs.Within.{size_within, size_some}

@@ -1,6 +1,6 @@
 -- What replaces the words of a line.
-use Rattle.std.specs.Prelude.{◌≡◌, ℕ, ◌+◌, List, [], ◌∷◌, map, length, flat_map, sum_by}
-use Rattle.css_base.specs.Tokens.{Kind, Lexeme, At}
+use Rattle.std.specs.Prelude.{◌≡◌, ℕ, List, ◌∷◌, map, length, flat_map, sum_by}
+use Rattle.css_base.specs.Tokens.{Lexeme, At}
 use Rattle.css_lex.specs.declared.breach.Breach.{Breach}
 use Rattle.css_lex.specs.Macros.{Table, replacement, replacement_names}
 use Rattle.css_lex.specs.Costs.{Cost}

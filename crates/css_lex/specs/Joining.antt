@@ -1,6 +1,6 @@
 -- Strings that are joined one token at a time.
 use Rattle.std.specs.Prelude.{◌≡◌, ◌⊎◌, ℕ, List, [], ◌∷◌, ◌++◌}
-use Rattle.css_base.specs.Tokens.{Kind, Lexeme, At, Text}
+use Rattle.css_base.specs.Tokens.{Kind, Lexeme, Text}
 use Rattle.css_base.specs.Tokens.{kind_of}
 use Rattle.css_lex.specs.declared.joining.Glued.{Glued}
 use Rattle.css_lex.specs.declared.joining.Glued.TheVariants as glued

@@ -1,6 +1,6 @@
 -- What a line does, by what is kept while a text is read.
 use Rattle.std.specs.Prelude.{◌≡◌, ℕ, Bool, true, false, List, [], ◌++◌, map}
-use Rattle.css_base.specs.Tokens.{Lexeme, lexemes}
+use Rattle.css_base.specs.Tokens.{lexemes}
 use Rattle.css_lex.specs.declared.line.Brought.{Brought}
 use Rattle.css_lex.specs.declared.line_kind.LineKind.{LineKind}
 use Rattle.css_lex.specs.declared.line_kind.LineKind.TheVariants as kinds

@@ -1,5 +1,5 @@
 -- The lexemes of a logical line (C99 6.4), longest first.
-use Rattle.std.specs.Prelude.{◌≡◌, ◌≢◌, ℕ, ◌⊎◌, Bool, false, not, ◌&&◌, ◌||◌, List, [], ◌∷◌, ◌++◌, All, Contains, IsTrue, codes, ◌==◌}
+use Rattle.std.specs.Prelude.{◌≡◌, ◌≢◌, ℕ, Bool, false, not, ◌&&◌, ◌||◌, List, [], ◌∷◌, ◌++◌, All, Contains, IsTrue, codes, ◌==◌}
 use Rattle.css_lex.specs.declared.lexeme_class.LexemeClass.{LexemeClass}
 use Rattle.css_lex.specs.declared.lexeme_class.LexemeClass.TheVariants as classes
 use Rattle.css_lex.specs.declared.pieces.Shape.{Shape}

@@ -8,6 +8,10 @@ pub mod Longest
 pub mod Values
 pub mod Macros
 pub mod MacroTokens
+pub mod Numbers
+pub mod NumberedWords
+pub mod ListedTokens
+pub mod Entries
 pub mod MacroTables
 pub mod Expansions
 pub mod Reading
@@ -23,3 +27,4 @@ pub mod Expanded
 pub mod LexState
 pub mod CommentEnd
 pub mod Lexing
+pub mod WithoutDirectives

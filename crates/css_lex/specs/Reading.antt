@@ -1,5 +1,5 @@
 -- A text as logical lines and their pieces, and what each line does to the macros that are defined behind it.
-use Rattle.std.specs.Prelude.{◌≡◌, ℕ, ◌+◌, Bool, true, false, not, ◌&&◌, List, [], ◌∷◌, ◌++◌, map, drop, slice_index, filter, filter_map, All, codes, Option, Some, None, if◌then◌else◌}
+use Rattle.std.specs.Prelude.{◌≡◌, ℕ, ◌+◌, Bool, true, false, not, ◌&&◌, List, [], ◌∷◌, map, drop, slice_index, filter, filter_map, All, codes, Option, Some, None, if◌then◌else◌}
 use Rattle.css_base.specs.Tokens.{Kind}
 use Rattle.css_lex.specs.declared.lexeme_class.LexemeClass.TheVariants as classes
 use Rattle.css_lex.specs.declared.line_kind.LineKind.{LineKind}

@@ -1,5 +1,5 @@
 -- Which static rule a text of a length that is allowed breaks first, of those on bytes, tokens, macros and constants.
-use Rattle.std.specs.Prelude.{ℕ, ◌+◌, Bool, true, false, not, ◌&&◌, ◌||◌, List, [], ◌∷◌, ◌++◌, length, map, drop, filter, filter_map, flat_map, codes, nat_le, nat_lt, ◌==◌, if◌then◌else◌, Option, Some, None, is_none, option_map}
+use Rattle.std.specs.Prelude.{ℕ, ◌+◌, Bool, true, false, not, ◌&&◌, ◌||◌, List, [], ◌∷◌, ◌++◌, length, map, drop, filter, filter_map, codes, nat_le, nat_lt, ◌==◌, if◌then◌else◌, Option, Some, None, is_none, option_map}
 use Rattle.css_base.specs.declared.static_fault.StaticFault.{StaticFault}
 use Rattle.css_base.specs.declared.static_fault.StaticName.{StaticName}
 use Rattle.css_base.specs.declared.static_fault.StaticName.TheVariants as names

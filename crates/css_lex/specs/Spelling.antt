@@ -1,5 +1,5 @@
 -- The tokens that a text spells.
-use Rattle.std.specs.Prelude.{ℕ, ◌+◌, List, [], ◌∷◌, ◌++◌, map, take, slice_index, flat_map, Some, None}
+use Rattle.std.specs.Prelude.{ℕ, ◌+◌, List, [], ◌∷◌, ◌++◌, map, take, flat_map, Some, None}
 use Rattle.css_base.specs.Tokens.{Text, Directive, Lexeme, At, Lexemes, End, More}
 use Rattle.css_lex.specs.declared.line_kind.LineKind.{LineKind}
 use Rattle.css_lex.specs.declared.line_kind.LineKind.TheVariants as kinds

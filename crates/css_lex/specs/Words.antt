@@ -1,6 +1,6 @@
 -- The words of a line: the tokens that its pieces spell before macros are replaced, up to the first piece that spells none.
 use Rattle.std.specs.Prelude.{◌≡◌, ℕ, ◌+◌, ◌-◌, ◌<◌, Bool, not, ◌&&◌, ◌==◌, List, [], ◌∷◌, length, drop, slice_index, slice_range, Option, Some, None, option_map, if◌then◌else◌}
-use Rattle.css_base.specs.Tokens.{Kind, Lexeme, At}
+use Rattle.css_base.specs.Tokens.{Lexeme, At}
 use Rattle.css_base.specs.declared.static_fault.StaticName.TheVariants as names
 use Rattle.css_lex.specs.declared.breach.Breach.{Breach}
 use Rattle.css_lex.specs.declared.pieces.Shape.{Shape}

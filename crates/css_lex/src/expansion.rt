@@ -1,13 +1,14 @@
 //! The replacement of macro names (C99 6.10.3.4), with a stack of its own.
-ghost use Rattle.std.specs.Prelude.{◌≡◌, ◌+◌, ◌<◌, ◌⊎◌, ◌++◌, ◌∷◌, [], length, MatchOption, OnOk, IsErrOf};
-ghost use Rattle.css_base.specs.Tokens.{kind_of, lexemes};
+ghost use Rattle.std.specs.Prelude.{◌≡◌, ℕ, false, ◌+◌, ◌<◌, ◌⊎◌, ◌++◌, ◌∷◌, [], length, MatchOption, OnOk, IsErrOf, IsTrue};
+ghost use Rattle.css_base.specs.Tokens.{Word, kind_of, lexemes};
 ghost use Rattle.css_lex.specs.Macros.{replacement, replacement_names};
-ghost use Rattle.css_lex.specs.MacroTokens.{plain_kind};
+ghost use Rattle.css_lex.specs.ListedTokens.{listed_kind, is_listed};
+ghost use Rattle.css_lex.specs.NumberedWords.{words_of};
 ghost use Rattle.css_lex.specs.MacroTables.{table_of};
-ghost use Rattle.css_lex.specs.Expansions.{placed, shown, tokens_to_come, names_to_come, tokens_given, names_given, steps_left, IsExpansion, IsNoMacro, IsMacro, Hides};
+ghost use Rattle.css_lex.specs.Expansions.{placed, shown_by, tokens_to_come, names_to_come, tokens_given, names_given, steps_left, IsExpansion, IsNoMacro, IsMacro, Replaces, Hides, is_among};
 
 use crate::counts::{Counts, ExpansionFault};
-use crate::macro_token::MacroToken;
+use crate::listed_token::ListedToken;
 use crate::macros::Macros;
 use css_base::{Line, Token, TokenKind};
 use std::alloc::Global;
@@ -21,18 +22,18 @@ pub(crate) struct Span {
     pub end: u32,
 }
 
-/// A macro that is being replaced: its name, and its tokens that are still to be read.
+/// A macro that is being replaced: its name's number, and its tokens that are still to be read.
 #[derive(Drop)]
 struct Frame<'a> {
-    name: &'a [u8],
-    rest: &'a [MacroToken],
+    number: usize,
+    rest: &'a [ListedToken],
 }
 
-/// The macros that are being replaced, the innermost last, and their names, which are hidden.
+/// The macros that are being replaced, the innermost last, and their names' numbers. These names are hidden.
 #[derive(Drop)]
 struct Expansion<'a> {
     frames: Vec<Frame<'a>>,
-    hidden: HashSet<&'a [u8]>,
+    hidden: HashSet<usize>,
 }
 
 /// Puts a token behind others and counts it.
@@ -58,22 +59,34 @@ fn push_token(
 }
 
 impl<'a> Expansion<'a> {
-    /// The macro that replaces a token: that of its name, unless the name is hidden.
-    fn macro_at(&self, macros: &'a Macros, token: &'a MacroToken) -> Option<Frame<'a>>
-        requires { IsExpansion (table_of macros.now) self.now }
-        ensures { MatchOption result
-            (IsNoMacro (shown (table_of macros.now) self.now.frames.items) (plain_kind token.now))
-            (IsMacro (shown (table_of macros.now) self.now.frames.items) (plain_kind token.now)) }
+    /// No macro is being replaced. Takes no memory.
+    fn new(alloc: Global) -> Expansion<'a>
+        ensures frames { result.frames.items ≡ [] }
+        ensures hidden { (number : ℕ) → is_among result number ≡ false }
     {
-        let MacroToken::Word(name) = token else {
+        Expansion {
+            frames: Vec::new(alloc),
+            hidden: HashSet::new(alloc),
+        }
+    }
+
+    /// The macro that replaces a token: that of its name, unless the name is hidden.
+    fn macro_at(&self, macros: &'a Macros, token: &'a ListedToken) -> Option<Frame<'a>>
+        requires expands { IsExpansion macros.now self.now }
+        requires listed { IsTrue (is_listed (words_of macros.now.words) token.now) }
+        ensures { MatchOption result
+            (IsNoMacro (shown_by macros.now self.now) (listed_kind token.now))
+            (IsMacro macros.now self.now (listed_kind token.now)) }
+    {
+        let Some(number) = token.number else {
             return None;
         };
-        if self.hidden.contains(name.as_slice()) {
+        if self.hidden.contains(&number) {
             return None;
         }
-        let found = macros.macro_of(name.as_slice())?;
+        let found = macros.macro_numbered(number)?;
         Some(Frame {
-            name: name.as_slice(),
+            number,
             rest: found.tokens.as_slice(),
         })
     }
@@ -81,10 +94,10 @@ impl<'a> Expansion<'a> {
     /// Begins to replace a macro, whose name is hidden from now on.
     fn enter(&mut self, frame: Frame<'a>) -> Result<(), ExpansionFault>
         ensures frames { OnOk result (self.new.frames.items ≡ self.old.frames.items ++ frame.entry ∷ []) }
-        ensures hidden { OnOk result (Hides self.old self.new frame.entry.name.now) }
+        ensures hidden { OnOk result (Hides self.old self.new frame.entry.number) }
         ensures too_many { IsErrOf result ExpansionFault.TooMany → ⊥ }
     {
-        self.hidden.insert(frame.name)?;
+        self.hidden.insert(frame.number)?;
         self.frames.push(frame)?;
         Ok(())
     }
@@ -92,15 +105,15 @@ impl<'a> Expansion<'a> {
     /// Replaces a token of the innermost macro: puts it behind others, or begins to replace the macro that it is.
     fn replace(
         &mut self,
-        alloc: Global,
         macros: &'a Macros,
-        token: &'a MacroToken,
+        token: &'a ListedToken,
         span: &Span,
         counts: &mut Counts,
         tokens: &mut Vec<Token>,
     ) -> Result<(), ExpansionFault>
-        requires { IsExpansion (table_of macros.now) self.old }
-        ensures keeps { OnOk result (IsExpansion (table_of macros.now) self.new) }
+        requires expands { IsExpansion macros.now self.old }
+        requires listed { IsTrue (is_listed (words_of macros.now.words) token.now) }
+        ensures keeps { OnOk result (IsExpansion macros.now self.new) }
         ensures tokens { OnOk result
             (lexemes tokens.new.items ++ placed span.now (tokens_to_come macros.now self.new)
             ≡ lexemes tokens.old.items ++ placed span.now
@@ -120,8 +133,7 @@ impl<'a> Expansion<'a> {
             ⊎ (1000000 < counts.old.names + names_given macros.now self.old token.now) }
     {
         let Some(frame) = self.macro_at(macros, token) else {
-            let kind = token.to_kind(alloc)?;
-            return push_token(kind, span, counts, tokens);
+            return push_token(token.token.to_kind()?, span, counts, tokens);
         };
         counts.count_name()?;
         self.enter(frame)?;
@@ -131,13 +143,12 @@ impl<'a> Expansion<'a> {
     /// Replaces what is left of the macros.
     fn replace_rest(
         &mut self,
-        alloc: Global,
         macros: &'a Macros,
         span: &Span,
         counts: &mut Counts,
         tokens: &mut Vec<Token>,
     ) -> Result<(), ExpansionFault>
-        requires { IsExpansion (table_of macros.now) self.old }
+        requires { IsExpansion macros.now self.old }
         ensures tokens { OnOk result (lexemes tokens.new.items
             ≡ lexemes tokens.old.items ++ placed span.now (tokens_to_come macros.now self.old)) }
         ensures token_count { OnOk result (counts.new.tokens ≡ counts.old.tokens + length (tokens_to_come macros.now self.old)) }
@@ -149,12 +160,12 @@ impl<'a> Expansion<'a> {
         while let Some(innermost) = self.frames.pop() {
             if let Some((token, rest)) = innermost.rest.split_first() {
                 self.frames.push(Frame {
-                    name: innermost.name,
+                    number: innermost.number,
                     rest,
                 })?;
-                self.replace(alloc, macros, token, span, counts, tokens)?;
+                self.replace(macros, token, span, counts, tokens)?;
             } else {
-                self.hidden.remove(innermost.name);
+                self.hidden.remove(&innermost.number);
             }
         }
         Ok(())
@@ -162,6 +173,20 @@ impl<'a> Expansion<'a> {
 }
 
 impl Macros {
+    /// The macro of a name, of which nothing has been read.
+    fn frame_of<'a>(&'a self, name: &[u8]) -> Option<Frame<'a>>
+        ensures { MatchOption result
+            (IsNoMacro (table_of self.now) (Word name.now))
+            (Replaces (words_of self.now.words) (table_of self.now) (Word name.now)) }
+    {
+        let number = self.number_of(name)?;
+        let found = self.macro_numbered(number)?;
+        Some(Frame {
+            number,
+            rest: found.tokens.as_slice(),
+        })
+    }
+
     /// Puts what replaces a token behind others, each with the token's line and range, and counts the tokens and the
     /// replaced names. `TooMany` comes exactly where one of the counts would pass 1,000,000.
     pub fn replace(
@@ -182,19 +207,13 @@ impl Macros {
         let TokenKind::Word(name) = &kind else {
             return push_token(kind, span, counts, tokens);
         };
-        let Some(found) = self.macro_of(name.as_slice()) else {
+        let Some(frame) = self.frame_of(name.as_slice()) else {
             return push_token(kind, span, counts, tokens);
         };
         counts.count_name()?;
-        let mut expansion = Expansion {
-            frames: Vec::new(alloc),
-            hidden: HashSet::new(alloc),
-        };
-        expansion.enter(Frame {
-            name: name.as_slice(),
-            rest: found.tokens.as_slice(),
-        })?;
-        expansion.replace_rest(alloc, self, span, counts, tokens)?;
+        let mut expansion = Expansion::new(alloc);
+        expansion.enter(frame)?;
+        expansion.replace_rest(self, span, counts, tokens)?;
         Ok(())
     }
 }

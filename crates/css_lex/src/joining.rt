@@ -21,7 +21,7 @@ fn text_of(kind: TokenKind) -> Result<Bytes, TokenKind>
 fn both(front: Bytes, back: Bytes) -> Result<Bytes, NoMemory>
     ensures { IfOk result (λ bytes. bytes ≡ front ++ back) }
 {
-    let mut bytes = front.into_vec();
+    let mut bytes = front.into_vec()?;
     bytes.extend_from_slice(back.as_slice())?;
     Ok(Bytes::new(bytes))
 }

@@ -7,6 +7,7 @@ ghost use Rattle.css_base.specs.Tokens.{Lexeme};
 ghost use Rattle.css_base.specs.declared.static_fault.StaticFault.{StaticFault};
 ghost use Rattle.css_lex.specs.Lexing.{SpellsTokens, IsRefused};
 ghost use Rattle.css_lex.specs.Lines.{erased, newlines};
+ghost use Rattle.css_lex.specs.WithoutDirectives.{HasPartedStrings, SpellsTheOthers};
 
 /// A text without its directives has as many newlines as the text.
 pub fn erasing_keeps_newlines()
@@ -33,4 +34,10 @@ pub fn one_lexing()
     ensures tokens { (text : List ℕ) (these those : List Lexeme) → SpellsTokens text these → SpellsTokens text those → these ≡ those }
     ensures faults { (text : List ℕ) (this that : StaticFault) → IsRefused text this → IsRefused text that → this ≡ that }
     ensures apart { (text : List ℕ) (tokens : List Lexeme) (fault : StaticFault) → SpellsTokens text tokens → IsRefused text fault → ⊥ }
+{}
+
+/// Where a text is lexed and no two of its strings are parted by directives alone, the text without its directives is
+/// lexed too: its tokens have the kinds and lines of the text's tokens that aren't directives.
+pub fn erasing_takes_directives_alone()
+    ensures { (text : List ℕ) (tokens : List Lexeme) → SpellsTokens text tokens → (HasPartedStrings tokens → ⊥) → SpellsTheOthers text tokens }
 {}

@@ -18,6 +18,7 @@ mod lexeme_class;
 mod lexing;
 mod line;
 mod line_kind;
+mod listed_token;
 mod macro_laws;
 mod macro_token;
 mod macros;

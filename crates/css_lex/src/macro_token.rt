@@ -22,13 +22,6 @@ pub(crate) enum MacroToken {
     Punctuator(Bytes),
 }
 
-/// A copy of bytes.
-fn copied(alloc: Global, bytes: &Bytes) -> Result<Bytes, NoMemory>
-    ensures { IfOk result (λ copy. copy ≡ bytes.now) }
-{
-    Ok(Bytes::new(Vec::from_slice(alloc, bytes.as_slice())?))
-}
-
 impl MacroToken {
     /// A token as a macro's token.
     pub fn new(kind: TokenKind) -> MacroToken
@@ -45,19 +38,31 @@ impl MacroToken {
         }
     }
 
-    /// The token that is put in the place of a macro's name. Its bytes are copied.
-    pub fn to_kind(&self, alloc: Global) -> Result<TokenKind, NoMemory>
+    /// The same token, ready to be put in the place of many names: `to_kind` doesn't copy its bytes.
+    pub fn into_shared(self, alloc: Global) -> Result<MacroToken, NoMemory>
+        ensures { IfOk result (λ token. plain_kind token ≡ plain_kind self) }
+    {
+        Ok(match self {
+            MacroToken::Word(bytes) => MacroToken::Word(bytes.into_shared(alloc)?),
+            MacroToken::Text(bytes) => MacroToken::Text(bytes.into_shared(alloc)?),
+            MacroToken::Punctuator(bytes) => MacroToken::Punctuator(bytes.into_shared(alloc)?),
+            other => other,
+        })
+    }
+
+    /// The token that is put in the place of a macro's name. Its bytes are shared.
+    pub fn to_kind(&self) -> Result<TokenKind, NoMemory>
         ensures { IfOk result (λ kind. kind_of kind ≡ plain_kind self.now) }
     {
         Ok(match self {
-            MacroToken::Word(bytes) => TokenKind::Word(copied(alloc, bytes)?),
+            MacroToken::Word(bytes) => TokenKind::Word(bytes.share()?),
             MacroToken::Number { kind, value } => TokenKind::Number {
                 kind: *kind,
                 value: *value,
             },
             MacroToken::Character(byte) => TokenKind::Character(*byte),
-            MacroToken::Text(bytes) => TokenKind::Text(copied(alloc, bytes)?),
-            MacroToken::Punctuator(bytes) => TokenKind::Punctuator(copied(alloc, bytes)?),
+            MacroToken::Text(bytes) => TokenKind::Text(bytes.share()?),
+            MacroToken::Punctuator(bytes) => TokenKind::Punctuator(bytes.share()?),
         })
     }
 

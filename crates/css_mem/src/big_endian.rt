@@ -6,7 +6,7 @@ ghost use Rattle.css_vm.specs.Spaces.{bytes_of};
 use css_vm::Width;
 
 /// How many bytes an access has.
-pub(crate) fn byte_count(width: Width) -> usize
+pub fn byte_count(width: Width) -> usize
     ensures { result ≡ bytes_of width }
 {
     match width {
@@ -19,7 +19,7 @@ pub(crate) fn byte_count(width: Width) -> usize
 
 /// The number that these bytes stand for.
 #[inline]
-pub(crate) fn number_of(width: Width, bytes: &[u8]) -> u64
+pub fn number_of(width: Width, bytes: &[u8]) -> u64
     requires { length bytes.now ≡ bytes_of width }
     ensures { result ≡ big_endian bytes.now }
 {
@@ -35,7 +35,7 @@ pub(crate) fn number_of(width: Width, bytes: &[u8]) -> u64
 
 /// Writes the low bytes of a number over those from an index on.
 #[inline]
-pub(crate) fn write_number(bytes: &mut [u8], index: usize, width: Width, number: u64)
+pub fn write_number(bytes: &mut [u8], index: usize, width: Width, number: u64)
     requires { index + bytes_of width ≤ length bytes.old }
     ensures { bytes.new ≡ overlaid 0 bytes.old index (big_endian_bytes (bytes_of width) number) }
 {
@@ -51,7 +51,8 @@ pub(crate) fn write_number(bytes: &mut [u8], index: usize, width: Width, number:
     }
 }
 
-fn overwrite(bytes: &mut [u8], index: usize, new: &[u8])
+/// Writes bytes over those from an index on.
+pub(crate) fn overwrite(bytes: &mut [u8], index: usize, new: &[u8])
     requires { index + length new.now ≤ length bytes.old }
     ensures { bytes.new ≡ overlaid 0 bytes.old index new.now }
 {

@@ -1,12 +1,18 @@
 //! Main's flat memory. So far it has a stack alone.
-ghost use Rattle.std.specs.Prelude.{◌≡◌, ◌+◌, ◌≤◌, length, IfOk, IfSome, is_some, if◌then◌else◌};
+ghost use Rattle.std.specs.Prelude.{◌≡◌, ◌+◌, ◌≤◌, true, length, IfOk, IfSome, is_some, if◌then◌else◌};
 ghost use Rattle.css_semantics.specs.declared.TheConstants.{STACK_LIMIT};
-ghost use Rattle.css_semantics.specs.Memory.{first_global, is_live, stack_place};
+ghost use Rattle.css_semantics.specs.Memory.{first_global, is_live, is_live_byte, stack_place};
 ghost use Rattle.css_semantics.specs.Flat.{erased_stack, no_frames};
-ghost use Rattle.css_semantics.specs.Rules.{main_stack};
+ghost use Rattle.css_semantics.specs.Rows.{with_window};
+ghost use Rattle.css_semantics.specs.Rules.{main_stack, all_of_window};
+ghost use Rattle.css_semantics.specs.Tasks as tasks;
+ghost use Rattle.css_semantics.specs.Verdict.{bytes_of_window};
+ghost use Rattle.css_record.specs.Windows.{window, IsWindow};
 
 use crate::big_endian::{byte_count, number_of, write_number};
-use css_base::{FaultKind, NoMemory, Rule, Stop};
+use crate::rows::{copied_rows, write_rows};
+use css_base::{Buffer, FaultKind, NoMemory, Rule, Stop};
+use css_record::Window;
 use css_semantics::{MAIN_OPEN_CALLS, MAIN_STACK_LIMIT, OPEN_CALLS, STACK_LIMIT};
 use css_vm::{Space, Width};
 use std::alloc::Global;
@@ -62,6 +68,43 @@ impl MainMemory {
             calls: 0,
             most_calls,
         })
+    }
+
+    /// The address of the stack's first byte, or the memory's end where no frame is open.
+    pub fn place(&self) -> u32
+        ensures { result ≡ stack_place self.now }
+    {
+        self.origin + self.start as u32
+    }
+
+    /// Whether so many bytes from an address are live.
+    pub fn has(&self, address: u32, count: usize) -> bool
+        requires { 1 ≤ count }
+        ensures { result ≡ is_live self.now address count }
+    {
+        self.live_offset(address, count).is_some()
+    }
+
+    /// A copy of a live window's bytes, row by row.
+    pub fn snapshot(&self, alloc: Global, part: Window) -> Result<Buffer, NoMemory>
+        requires is_window { IsWindow (window part) }
+        requires live { all_of_window (is_live_byte self.now) (window part) ≡ true }
+        ensures { IfOk result (λ bytes. bytes ≡ bytes_of_window self.now (window part)) }
+    {
+        let first = (part.base - self.origin) as usize;
+        let bytes = copied_rows(alloc, &self.bytes, first, part)?;
+        Buffer::new(alloc, bytes)
+    }
+
+    /// Writes bytes into a live window, row by row.
+    pub fn write_back(&mut self, part: Window, bytes: &[u8])
+        requires is_window { IsWindow (window part) }
+        requires live { all_of_window (is_live_byte self.old) (window part) ≡ true }
+        requires whole { length bytes.now ≡ tasks.window_length (window part) }
+        ensures { self.new ≡ with_window self.old (window part) bytes.now }
+    {
+        let first = (part.base - self.origin) as usize;
+        write_rows(&mut self.bytes, first, part, bytes);
     }
 
     // How far behind the stack's first byte an address is, if so many bytes from it on are live.

@@ -6,3 +6,9 @@ pub mod Checks
 pub mod Apart
 pub mod ClearTapes
 pub mod Tapes
+pub mod TaskWorlds
+pub mod TaskBytes
+pub mod TaskPlaces
+pub mod TaskRows
+pub mod TaskOuts
+pub mod TaskKept

@@ -8,3 +8,6 @@ pub mod Pending
 pub mod Rules
 pub mod Clear
 pub mod Verdict
+pub mod Alone
+pub mod TaskSpaces
+pub mod Rows

@@ -8,7 +8,7 @@ use Rattle.css_base.specs.declared.rule.Rule.{Rule}
 use Rattle.css_base.specs.declared.rule.Rule.TheVariants as rules
 use Rattle.css_semantics.specs.Dialogue.{Action, Enter, Leave, Load, Store, Calls, Returns, Start, Finish, Tape, Reply, Refuses, World, Argument}
 use Rattle.css_semantics.specs.Memory.{Memory, StackLimit, rounded_up, all_from, is_between, is_live_byte, memory_after}
-use Rattle.css_semantics.specs.Tasks.{Window, window, has_byte, is_same_window, window_length, span, reads, writes, Body, body, unit_of, is_started, main_units, main_frames}
+use Rattle.css_semantics.specs.Tasks.{Window, window, has_byte, is_same_window, window_length, span, reads, writes, Body, body, unit_of, is_started, main_units}
 use Rattle.css_semantics.specs.Pending.{Object, some_from, pending}
 
 -- all bytes of a window have a property: those of each of so many rows
@@ -158,6 +158,11 @@ abbrev pub is_entry_too_deep : StackLimit → List ℕ → Action → Bool
 is_entry_too_deep limit frames (Enter size) = is_too_deep limit frames size
 is_entry_too_deep limit frames _ = false
 
+-- with one more frame main's stack, which is the memory's, would pass its limit
+abbrev pub is_main_too_deep : Memory → Action → Bool
+is_main_too_deep m (Enter size) = nat_lt main_stack.bytes (length m.stack + size) || nat_le main_stack.calls m.calls
+is_main_too_deep m _ = false
+
 -- an action takes a unit where none is left
 abbrev pub wants_unit : (limit used : ℕ) → Action → Bool
 wants_unit limit used action = nat_lt 0 (unit_of action) && nat_le limit used
@@ -182,7 +187,7 @@ checks_of_main m limits tape action =
     ∷ check rules.PartialOverlap (of_arguments (λ all. list_any (overlaps_partly (pending tape) all) all) action)
     ∷ check rules.AliasedArguments (of_arguments has_alias action)
     ∷ check rules.Unsynchronised (is_unsynchronised (pending tape) action)
-    ∷ check rules.MainStack (is_entry_too_deep main_stack (main_frames tape) action)
+    ∷ check rules.MainStack (is_main_too_deep m action)
     ∷ check rules.Units (wants_unit limits.main_units (main_units tape) action)
     ∷ []
 

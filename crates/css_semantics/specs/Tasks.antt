@@ -164,8 +164,3 @@ inside tape = option_map (λ b. called tape - 1) (body tape)
 abbrev pub main_units : Tape → ℕ
 main_units [] = 0
 main_units (i ∷ tape) = if is_none (body tape) then main_units tape + unit_of i.action else main_units tape
-
--- the bytes of main's open frames, and of those that it calls, the innermost first
-abbrev pub main_frames : Tape → List ℕ
-main_frames [] = []
-main_frames (i ∷ tape) = if is_none (body tape) then frames_after (main_frames tape) i.action else main_frames tape

@@ -27,6 +27,7 @@ pub mod MoreFuel
 pub mod OperatorSteps
 pub mod Operators
 pub mod Places
+pub mod Pointers
 pub mod Results
 pub mod Runs
 pub mod Sound

@@ -1,6 +1,7 @@
 pub mod Meaning
 pub mod Code
 pub mod Marks
+pub mod Tasks
 pub mod Correct
 pub mod Fuel
 pub mod Lines

@@ -103,7 +103,7 @@ fn buffers_of(alloc: Global, copies: Vec<Bytes>) -> Result<Vec<Buffer>, NoMemory
 {
     let mut buffers = Vec::with_capacity(alloc, copies.len())?;
     for copy in copies {
-        buffers.push_reserved(Buffer::new(alloc, copy.into_vec())?);
+        buffers.push_reserved(Buffer::new(alloc, copy.into_vec()?)?);
     }
     Ok(buffers)
 }

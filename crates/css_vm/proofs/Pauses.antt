@@ -1,10 +1,12 @@
 -- What the instructions do at which the steps of an activation pause.
-use Rattle.std.proofs.Common.{◌≡◌, ℕ, zero, suc, ◌+◌, ◌-◌, ◌*◌, ◌%◌, ◌^◌, ◌<◌, ◌≤◌, List, [], ◌∷◌, length, take, drop, reverse, Some, slice_get, nat_le, true, false, refl, sym, ap, ap₂, subst, ◌∙◌, arith, zero-add, le-leb, pow_pos, mod-lt, mod-eq_of_lt, inl, inr}
+use Rattle.std.proofs.Common.{◌≡◌, ℕ, zero, suc, ◌+◌, ◌-◌, ◌*◌, ◌/◌, ◌%◌, ◌^◌, ◌<◌, ◌≤◌, List, [], ◌∷◌, ◌++◌, length, take, drop, reverse, Some, slice_get, nat_le, true, false, refl, sym, ap, ap₂, subst, ◌∙◌, arith, zero-add, le-leb, pow_pos, mod-lt, mod-eq_of_lt, inl, inr}
+use Rattle.std.proofs.lemmas.Nat.{mod-pow-add}
 use Rattle.std.proofs.lemmas.List.{length-drop, length-reverse, length-take-le}
 use Rattle.css_base.specs.declared.ending.Stop.{Stop}
 use Rattle.css_base.specs.declared.ending.Stop.TheVariants as stops
 use Rattle.css_base.specs.declared.rule.Rule.TheVariants.{Units}
-use Rattle.css_semantics.specs.Dialogue.{Action, Turn, Leave, Out, Calls, Returns, Start, Finish, Barrier, Reply, Says, Tape, World, Call, Goes, then_do, ask, item, replied}
+use Rattle.css_semantics.specs.Dialogue.{Action, Enter, Turn, Leave, Store, Out, Calls, Start, Finish, Barrier, Reply, Says, Tape, World, Call, Outcome, Goes, Stops, then_do, ask}
+use Rattle.css_semantics.specs.Memory.{big_endian_bytes}
 use Rattle.css_semantics.specs.Units.{with_units, within, metered, spending}
 use Rattle.css_vm.specs.declared.code.Op.{Op}
 use Rattle.css_vm.specs.declared.code.Op.TheVariants as ops
@@ -16,10 +18,10 @@ use Rattle.css_vm.specs.declared.machine.Event.TheVariants as events
 use Rattle.css_vm.specs.declared.machine.Submitted.{Submitted}
 use Rattle.css_vm.specs.declared.rounds.Round.TheVariants as rounds
 use Rattle.css_vm.specs.Code.{Routine, Shape, Code, all_dimensions, scalars_of, pointers_of, narrowed_to, call_of}
-use Rattle.css_vm.specs.Machine.{State, Begin, At, Activation, Caller, On, effect, next, calling, called, entered, frame_of, exec, go_on}
+use Rattle.css_vm.specs.Machine.{State, Begin, At, Activation, Caller, On, effect, next, stores, calling, called, entered, frame_of, exec, go_on}
 use Rattle.css_vm.specs.Soundness.{Spot, Leads, IsFine, IsSound, IsSpot, Fits, Names, needs, takes, arguments_taken, dimensions_taken, dimensions_of_task}
 use Rattle.css_vm.specs.Spaces.{IsRefusal, IsStackPlace}
-use Rattle.css_vm.specs.Events.{Along, StopsAt, PassesCalls, IsStacked, Does, Falls, IsWhole}
+use Rattle.css_vm.specs.Events.{Along, StopsAt, IsStacked, behind_call, Does, Falls, IsWhole}
 use Rattle.css_vm.specs.Stacks.{running}
 use Rattle.css_vm.specs.States.{function_of, stack_of, depth, moved, dropped, with_callee, returned, marked, Submits}
 use Rattle.css_vm.specs.Steps.{HasInstr, IsBefore, ComesOn, Enters, StopsEntering, Comes, ComesRound}
@@ -51,6 +53,41 @@ same_call : (k : ℕ) (g : Routine) (shape : Shape) (arguments dimensions : List
 same_call k g shape arguments dimensions base =
     ap (λ values. let call : Call = record { function = k; scalars = scalars_of shape.arguments values; arguments = pointers_of shape.arguments values dimensions; stack_place = base } in call)
     (narrowed_twice g.parameters arguments)
+
+-- what goes on alike behind an outcome
+then_same : {A B : Type 0} (o : Outcome A) (f g : A → Tape → Outcome B) → ((a : A) (t : Tape) → f a t ≡ g a t) → then_do o f ≡ then_do o g
+then_same (Goes a t) f g same = same a t
+then_same (Stops why t) f g same = refl
+
+-- a number's low bytes are those of a narrowed one
+low_bytes : (width n : ℕ) → big_endian_bytes width (n % 2 ^ (8 * width)) ≡ big_endian_bytes width n
+low_bytes zero n = refl
+low_bytes (suc width) n =
+    let rest = n / 256 % 2 ^ (8 * width) in
+    let m = n % 2 ^ (8 * suc width) in
+    let bits : 8 * suc width ≡ 8 * width + 8 = omega arith in
+    let parts : m ≡ rest * 256 + n % 256 = ap (λ k. n % 2 ^ k) bits ∙ mod-pow-add n (8 * width) 8 in
+    let high : m / 256 ≡ rest = omega arith in
+    let low : m % 256 ≡ n % 256 = omega arith in
+    ap (λ h. big_endian_bytes width h ++ m % 256 ∷ []) high ∙ ap (λ byte. big_endian_bytes width rest ++ byte ∷ []) low
+    ∙ ap (λ bytes. bytes ++ n % 256 ∷ []) (low_bytes width (n / 256))
+
+same_stores : (w : World) (address : ℕ) (parameters arguments : List ℕ) (line : ℕ) (tape : Tape) → stores w address parameters (narrowed_to parameters arguments) line tape ≡ stores w address parameters arguments line tape
+same_stores w address [] arguments line tape = refl
+same_stores w address (width ∷ parameters) [] line tape = refl
+same_stores w address (width ∷ parameters) (a ∷ arguments) line tape =
+    rw (low_bytes width a)
+    (then_same (ask w (Store (address % 2 ^ 32) (big_endian_bytes width a)) line tape) (λ r t. stores w (address + 8) parameters (narrowed_to parameters arguments) line t) (λ r t. stores w (address + 8) parameters arguments line t)
+    (λ r t. same_stores w (address + 8) parameters arguments line t))
+
+-- a task's call goes on alike with narrowed arguments
+same_behind : (w : World) (code : Code) (a : Activation) (callers : List Caller) (line at k : ℕ) (g : Routine) (arguments rest : List ℕ) (reply : ℕ) (tape : Tape)
+    → called w code a callers line at k g arguments rest reply tape ≡ behind_call w line k g (narrowed_to g.parameters arguments) reply (At a callers (at + 1) (0 ∷ rest)) tape
+same_behind w code a callers line at k g arguments rest zero tape = refl
+same_behind w code a callers line at k g arguments rest (suc reply) tape =
+    ap (λ o. then_do o (λ base t. Goes (On (At (record { function = k; base = base; is_task = true }) (record { activation = a; place = at + 1; stack = rest } ∷ callers) 0 [])) t))
+    (then_same (ask w (Enter g.frame) line tape) (λ base t. then_do (stores w base g.parameters arguments line t) (λ r t'. Goes base t')) (λ base t. then_do (stores w base g.parameters (narrowed_to g.parameters arguments) line t) (λ r t'. Goes base t'))
+    (λ base t. ap (λ o. then_do o (λ r t'. Goes base t')) (sym (same_stores w base g.parameters arguments line t))))
 
 -- ---- at an instruction
 
@@ -323,18 +360,17 @@ module _ {S : Type 0} (reply : S → Action → Reply) (learn : S → Action →
         let le' : nat_le (length g.parameters) (length below) ≡ true = le-leb _ _ second in
         rw (there, is_task, le, le') refl
 
-    -- where the world runs no body, the call returns at once
-    submit_runs : IsBefore code (ops.Submit k) line (At a callers at stack) → (w : World) → PassesCalls w → (tape : Tape) (n : ℕ) → exec w code (0 + suc n) (At a callers at stack) tape
-        ≡ then_do (ask w (Calls (call_of k g shape (narrowed_to g.parameters arguments) dimensions a.base)) line tape) (λ r t. then_do (ask w Returns line t) (λ r' t'. exec w code n (At a callers (at + 1) (0 ∷ rest)) t'))
-    submit_runs before w passes tape n =
+    submit_runs : IsBefore code (ops.Submit k) line (At a callers at stack) → (w : World) (tape : Tape) (n : ℕ) → exec w code (0 + suc n) (At a callers at stack) tape
+        ≡ then_do (ask w (Calls (call_of k g shape (narrowed_to g.parameters arguments) dimensions a.base)) line tape) (λ r t. then_do (behind_call w line k g (narrowed_to g.parameters arguments) r (At a callers (at + 1) (0 ∷ rest)) t) (go_on (exec w code n)))
+    submit_runs before w tape n =
         let call = call_of k g shape arguments dimensions a.base in
-        let passed : ask w (Calls call) line tape ≡ Goes 0 (item (Calls call) line ∷ tape) = ap (λ r. replied r (item (Calls call) line) tape) (passes tape call line) in
         rw (same_call k g shape arguments dimensions a.base)
         (exec_at code before.0 a callers at line (ops.Submit k) before.1 before.2 stack w n tape
         ∙ ap (λ o. then_do o (go_on (exec w code n))) (submit_effect w tape)
-        ∙ ap (λ o. then_do (then_do o (λ r t. called w code a callers line at k g arguments rest r t)) (go_on (exec w code n))) passed
-        ∙ then_assoc (ask w Returns line (item (Calls call) line ∷ tape)) (λ r t. next w code a callers line at (0 ∷ rest) t) (go_on (exec w code n))
-        ∙ ap (λ o. then_do o (λ r t. then_do (ask w Returns line t) (λ r' t'. exec w code n (At a callers (at + 1) (0 ∷ rest)) t'))) (sym passed))
+        ∙ then_assoc (ask w (Calls call) line tape) (λ r t. called w code a callers line at k g arguments rest r t) (go_on (exec w code n))
+        ∙ then_same (ask w (Calls call) line tape) (λ r t. then_do (called w code a callers line at k g arguments rest r t) (go_on (exec w code n)))
+        (λ r t. then_do (behind_call w line k g (narrowed_to g.parameters arguments) r (At a callers (at + 1) (0 ∷ rest)) t) (go_on (exec w code n)))
+        (λ r t. ap (λ o. then_do o (go_on (exec w code n))) (same_behind w code a callers line at k g arguments rest r t)))
 
     submit_falls : (units : ℕ) → IsBefore code (ops.Submit k) line (At a callers at stack) → Falls code (At a callers at stack) units (At a callers (at + 1) (0 ∷ rest)) units
     submit_falls units before =
@@ -377,9 +413,9 @@ module _ {S : Type 0} (reply : S → Action → Reply) (learn : S → Action →
                 shape,
                 submits.is_there,
                 submits.is_task,
-                λ passes n.
+                λ n.
                     rw (submits.arguments, submits.dimensions, submits.line_is)
-                    (submit_runs a callers at k g shape stack submits.is_there submits.is_task submits.cells before w passes tape n),
+                    (submit_runs a callers at k g shape stack submits.is_there submits.is_task submits.cells before w tape n),
               ));
         },
         (tt, submit_falls a callers at k g shape stack submits.is_there submits.is_task submits.cells units before, stacked, submit_whole a callers at k g shape stack submits.is_there submits.is_task submits.cells call refl submits.arguments submits.dimensions),

@@ -52,9 +52,9 @@ does_later w code old mid new tape here later steps (events.Submit s) same does 
   does.2,
   does.3,
   does.4,
-  λ passes n.
+  λ n.
       let more : steps + does.0 + suc n ≡ steps + (does.0 + suc n) = omega arith in
-      rw more (same (does.0 + suc n) ∙ does.5 passes n),
+      rw more (same (does.0 + suc n) ∙ does.5 n),
 )
 does_later w code old mid new tape here later steps (events.Mark marks.Start line) same does = (
   steps + does.0,

@@ -1,7 +1,7 @@
 -- What a machine's run to the next event does, over a space and with units.
-use Rattle.std.specs.Prelude.{◌≡◌, ℕ, suc, ◌+◌, ◌<◌, ◌⊎◌, List, [], ◌∷◌, ◌++◌, length, Some, slice_get}
+use Rattle.std.specs.Prelude.{◌≡◌, ℕ, zero, suc, true, ◌+◌, ◌<◌, ◌⊎◌, List, [], ◌∷◌, ◌++◌, length, Some, slice_get}
 use Rattle.css_base.specs.declared.ending.Stop.{Stop}
-use Rattle.css_semantics.specs.Dialogue.{Action, Reply, Says, Out, Calls, Returns, Start, Finish, Barrier, Call, Tape, World, Outcome, Goes, Stops, Stopped, item, then_do, ask}
+use Rattle.css_semantics.specs.Dialogue.{Action, Reply, Out, Calls, Returns, Start, Finish, Barrier, Call, Tape, World, Outcome, Goes, Stops, Stopped, item, then_do, ask}
 use Rattle.css_semantics.specs.Worlds.{state_after, AreOfMachine, Follows}
 use Rattle.css_semantics.specs.Tasks.{is_started}
 use Rattle.css_vm.specs.declared.code.MarkKind.{MarkKind}
@@ -11,7 +11,7 @@ use Rattle.css_vm.specs.declared.machine.Event.TheVariants as events
 use Rattle.css_vm.specs.Cells.{truth}
 use Rattle.css_vm.specs.declared.machine.Submitted.{Submitted}
 use Rattle.css_vm.specs.Code.{Routine, Shape, Code, all_dimensions, narrowed_to, call_of}
-use Rattle.css_vm.specs.Machine.{State, Begin, At, Caller, Finished, frame_of, exec, answered, IsOwed}
+use Rattle.css_vm.specs.Machine.{State, Begin, At, Caller, Finished, After, On, stuck, entered, go_on, frame_of, exec, answered, IsOwed}
 use Rattle.css_vm.specs.Soundness.{Spot, IsSound, IsAt}
 
 -- ---- frames
@@ -50,10 +50,6 @@ Along reply learn space space' Holds = (w : World) (tape : Tape) → Follows w r
 abbrev pub StopsAt : {A : Type 0} → Stop → ℕ → Outcome A → Tape → Type 0
 StopsAt stop line o tape = o ≡ Stops (Stopped stop line) tape
 
--- the world runs no body at a task's call
-abbrev pub PassesCalls : World → Type 0
-PassesCalls w = (tape : Tape) (call : Call) (line : ℕ) → w tape (item (Calls call) line) ≡ Says 0
-
 -- From a tape on, the machine goes on by itself to a later tape, and then does what a mark tells, with n steps to spare.
 abbrev pub DoesMark : World → Code → State → MarkKind → State → ℕ → (steps n : ℕ) → Tape → Tape → Type 0
 DoesMark w code old marks.Start new line steps n tape later =
@@ -65,15 +61,25 @@ DoesMark w code old marks.Barrier new line steps n tape later =
 DoesMark w code old marks.Started new line steps n tape later =
     exec w code (steps + suc n) old tape ≡ exec w code n (answered (truth (is_started later)) new) later
 
--- The same for an event. A task's call is told where the world runs no body at it.
+-- Behind the item of a task's call, where the world replies and the machine's state is owed its answer: the body is run, or the call
+-- returns at once.
+abbrev pub behind_call : World → (line function : ℕ) → Routine → (arguments : List ℕ) → (reply : ℕ) → State → Tape → Outcome After
+behind_call w line k f arguments zero (At a callers place (owed ∷ rest)) tape =
+    then_do (ask w Returns line tape) (λ r t. Goes (On (At a callers place (0 ∷ rest))) t)
+behind_call w line k f arguments (suc reply) (At a callers place (owed ∷ rest)) tape =
+    then_do (entered w f arguments line tape) (λ base t.
+    Goes (On (At (record { function = k; base = base; is_task = true }) (record { activation = a; place = place; stack = rest } ∷ callers) 0 [])) t)
+behind_call w line k f arguments reply _ tape = stuck tape
+
+-- The same for an event.
 abbrev pub Does : World → Code → State → Event → State → Tape → Tape → Type 0
 Does w code old (events.Out bytes) new tape later =
     (steps : ℕ) × (line : ℕ) × ((n : ℕ) → exec w code (steps + suc n) old tape ≡ then_do (ask w (Out bytes) line later) (λ r t. exec w code n (answered r new) t))
 Does w code old (events.Submit s) new tape later =
     (steps : ℕ) × (f : Routine) × (shape : Shape) × (slice_get code.functions s.function ≡ Some f) × (f.task ≡ Some shape)
-    × (PassesCalls w → (n : ℕ) → exec w code (steps + suc n) old tape
+    × ((n : ℕ) → exec w code (steps + suc n) old tape
     ≡ then_do (ask w (Calls (call_of s.function f shape s.arguments.items s.dims.items (base_of new))) s.line later) (λ r t.
-    then_do (ask w Returns s.line t) (λ r' t'. exec w code n (answered 0 new) t')))
+    then_do (behind_call w s.line s.function f s.arguments.items r new t) (go_on (exec w code n))))
 Does w code old (events.Mark kind line) new tape later = (steps : ℕ) × ((n : ℕ) → DoesMark w code old kind new line steps n tape later)
 Does w code old (events.Ended value line) new tape later =
     (steps : ℕ) × ((n : ℕ) → exec w code (steps + suc n) old tape ≡ Goes (Finished value (base_of new) line) later)

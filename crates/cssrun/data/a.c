@@ -1,1 +1,11 @@
-int main(void) { int i = 0; while (i < 3) { putchar(97 + i); i = i + 1; } return i / 3; }
+#pragma css task inout(p)
+void inc(int *p) { p[0] = p[0] + 1; }
+int main(void) {
+  int x = 4;
+  #pragma css start
+  inc(&x);
+  #pragma css barrier
+  putchar(48 + x);
+  #pragma css finish
+  return 0;
+}

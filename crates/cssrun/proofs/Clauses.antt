@@ -4,7 +4,8 @@ use Rattle.std.specs.Prelude.{IfSome}
 use Rattle.css_words.specs.declared.request.Request.{Request}
 use Rattle.cssrun.specs.Request.{Asks, AreRefused}
 use Rattle.cssrun.specs.Answer.{Answer, IsOutside, IsTextAnswer, Refused, Ended, IsAnswer, WordsRefused, Asked, words_refused, read_fault}
-use Rattle.cssrun.specs.Ends.{Change, HasFailed, Got, GotPrefix, Whole, Cut, Starved, Finishes, Written, CutLine, IsText, ShelfFailed, PlainEnds, Answered, Unread, Unheard, IsWhole, IsCutShort, IsStarved, IsSmooth}
+use Rattle.css_io.specs.Changes.{Change, HasFailed, Got, GotPrefix}
+use Rattle.cssrun.specs.Ends.{Whole, Cut, Starved, Finishes, Written, CutLine, IsText, ShelfFailed, PlainEnds, Answered, Unread, Unheard, IsWhole, IsCutShort, IsStarved, IsSmooth}
 use Rattle.cssrun.proofs.OneAnswer.{answer_status, text_answer_status, is_built}
 use Rattle.cssrun.proofs.Runs.{IsRunStatus, run_answer_status}
 use Rattle.cssrun.proofs.Words.{asks_nothing}

@@ -2,8 +2,9 @@
 use Rattle.std.proofs.Common.{◌≡◌, ℕ, inl, inr, List, [], refl, sym, subst}
 use Rattle.std.proofs.lemmas.List.{append-nil}
 use Rattle.cssrun.specs.Answer.{Answer, no_memory}
-use Rattle.cssrun.specs.Ends.{Change, HasFailed, Got, GotPrefix, GotPrefixAnd, GotPrefixAndPrefix, Ends, Whole, Cut, Starved, Finishes, Written, CutLine}
-use Rattle.cssrun.proofs.Sinks.{AppendsPrefix-whole}
+use Rattle.css_io.specs.Changes.{Change, HasFailed, Got, GotPrefix}
+use Rattle.cssrun.specs.Ends.{GotPrefixAnd, GotPrefixAndPrefix, Ends, Whole, Cut, Starved, Finishes, Written, CutLine}
+use Rattle.css_main_side.proofs.Sinks.{AppendsPrefix-whole}
 
 -- a prefix, with nothing of the line
 pub nothing_of_line : (c : Change) (bytes line : List ℕ) → GotPrefix c bytes → GotPrefixAndPrefix c bytes line

@@ -1,5 +1,4 @@
 pub mod Exec
-pub mod Sinks
 pub mod Turns
 pub mod Unmarked
 pub mod Parts
@@ -11,4 +10,7 @@ pub mod Endings
 pub mod Runs
 pub mod OneAnswer
 pub mod Texts
+pub mod TaskRuns
+pub mod RunTexts
+pub mod Headlines
 pub mod Clauses

@@ -12,13 +12,13 @@ use Rattle.css_vm.specs.Machine.{State, Begin, At, entry_line, answered}
 use Rattle.css_vm.specs.Soundness.{Spot, IsSound, IsAt, Fits}
 use Rattle.css_vm.specs.Events.{Falls, IsStacked}
 use Rattle.cssrun.specs.Answer.{ending_of}
-use Rattle.cssrun.specs.Ends.{change}
-use Rattle.cssrun.specs.declared.run.Ran.{Ran}
-use Rattle.cssrun.specs.declared.run.Ran.TheVariants.{NoMemory}
-use Rattle.cssrun.specs.Ran.{RanAs}
+use Rattle.css_io.specs.Changes.{change}
+use Rattle.css_main_side.specs.declared.ran.Ran.{Ran}
+use Rattle.css_main_side.specs.declared.ran.Ran.TheVariants.{NoMemory}
+use Rattle.css_main_side.specs.Ran.{RanAs}
 use Rattle.cssrun.specs.Running.{ComesTo, Running, GoesOn, EndsRun}
 use Rattle.css_small_code.specs.Marks.{HasNoMarks}
-use Rattle.cssrun.proofs.Sinks.{Appends-nothing, AppendsPrefix-nothing, RanAs-more}
+use Rattle.css_main_side.proofs.Sinks.{Appends-nothing, AppendsPrefix-nothing, RanAs-more}
 use Rattle.cssrun.proofs.Turns.{output-running, running_begun}
 
 module _ {S : Type 0} (told : S → Option (List ℕ)) (faults : S → ℕ) (code : Code) where

@@ -13,12 +13,12 @@ use Rattle.css_small.specs.Numbers.{HasNumbers}
 use Rattle.css_small_code.specs.Meaning.{source}
 use Rattle.css_small_code.specs.Correct.{Codes}
 use Rattle.cssrun.specs.Answer.{Answer, IsRunAnswer, ending_of, ending_line, ending_status, no_memory}
-use Rattle.cssrun.specs.Ends.{Change, Got, GotPrefix}
+use Rattle.css_io.specs.Changes.{Change, Got, GotPrefix}
 use Rattle.cssrun.specs.Ends as ways
 use Rattle.cssrun.specs.Running.{halted, ComesTo}
 use Rattle.cssrun.proofs.Endings.{ends_answer, ends_no_memory}
 use Rattle.cssrun.proofs.Fuel.{MoreFuel, EnoughFuel, one_outcome, source_ends}
-use Rattle.cssrun.proofs.Sinks.{AppendsPrefix-whole}
+use Rattle.css_main_side.proofs.Sinks.{AppendsPrefix-whole}
 
 -- the answer of a run with this ending and output
 abbrev pub answer_from : Ending → List ℕ → Answer
@@ -34,7 +34,7 @@ answer_from-is limits p fuel o ending comes is =
       status_is = refl;
     }
 
-answer_of_parts : (a b : Answer) → a.out ≡ b.out → a.report ≡ b.report → a.status ≡ b.status → a ≡ b
+pub answer_of_parts : (a b : Answer) → a.out ≡ b.out → a.report ≡ b.report → a.status ≡ b.status → a ≡ b
 answer_of_parts a b outs reports statuses =
     let made : List ℕ → List ℕ → ℕ → Answer = λ o r s. record { out = o; report = r; status = s } in
     ap (λ o. made o a.report a.status) outs ∙ ap (λ r. made b.out r a.status) reports ∙ ap (λ s. made b.out b.report s) statuses

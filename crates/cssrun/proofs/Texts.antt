@@ -9,7 +9,8 @@ use Rattle.css_base.specs.declared.static_fault.StaticName.TheVariants as names
 use Rattle.css_words.specs.declared.request.Request.{Request}
 use Rattle.cssrun.specs.Request.{Asks, AreRefused}
 use Rattle.cssrun.specs.Answer.{Answer, IsOutside, IsTextAnswer, Refused, Ended, IsAnswer, WordsRefused, Asked, static_line, words_refused, no_memory}
-use Rattle.cssrun.specs.Ends.{Change, Got, GotPrefix, Ends, Finishes, IsText, PlainEnds, Answered}
+use Rattle.css_io.specs.Changes.{Change, Got, GotPrefix}
+use Rattle.cssrun.specs.Ends.{Ends, Finishes, IsText, PlainEnds, Answered}
 use Rattle.cssrun.proofs.Endings.{Ends-map, ends_answer, ends_no_memory}
 use Rattle.cssrun.proofs.OneAnswer.{not_built, not_built_is}
 use Rattle.cssrun.proofs.Words.{asks_nothing, one_request}

@@ -26,11 +26,11 @@ use Rattle.css_vm.specs.Spaces.{IsRefusal}
 use Rattle.css_vm.specs.Events.{Reaches, IsInside, IsStacked, base_of, Does}
 use Rattle.css_small_code.specs.Marks.{HasNoMarks}
 use Rattle.cssrun.specs.Answer.{ending_of}
-use Rattle.cssrun.specs.Ends.{Change, change}
-use Rattle.cssrun.specs.Pending.{Passes}
+use Rattle.css_io.specs.Changes.{Change, change}
+use Rattle.css_main_side.specs.Pending.{Passes}
 use Rattle.cssrun.specs.Running.{halted, main_frame, Running, ComesTo, GoesOn, left_with, reply_to_leaving}
 use Rattle.cssrun.proofs.Exec.{IsSettled, IsAny, target-more, target-extends, Extends, output-extends}
-use Rattle.cssrun.proofs.Sinks.{Appends-nothing}
+use Rattle.css_main_side.proofs.Sinks.{Appends-nothing}
 
 -- ---- outcomes
 

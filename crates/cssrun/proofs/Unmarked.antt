@@ -1,8 +1,8 @@
 -- Code without marks makes no task and comes to no mark, but one that asks whether tasks are made.
-use Rattle.std.proofs.Common.{◌≡◌, ℕ, ◌+◌, ◌∷◌, [], ◌++◌, IsTrue, refl, sym, ap, ◌∙◌, subst}
+use Rattle.std.proofs.Common.{◌≡◌, ℕ, zero, suc, ◌+◌, ◌∷◌, [], ◌++◌, IsTrue, refl, sym, ap, ◌∙◌, subst}
 use Rattle.std.specs.List.{AllByRecursion}
 use Rattle.std.proofs.lemmas.List.{append-nil}
-use Rattle.css_semantics.specs.Dialogue.{Action, Enter, Turn, Leave, Load, Store, Out, Calls, Returns, Start, Finish, Barrier, Wait, Fault, End, Item, Tape, Reply, Says, World, Outcome, tape_of}
+use Rattle.css_semantics.specs.Dialogue.{Action, Enter, Turn, Leave, Load, Store, Out, Calls, Returns, Start, Finish, Barrier, Wait, Fault, End, Call, Item, Tape, Reply, Says, World, Outcome, item, then_do, tape_of}
 use Rattle.css_semantics.specs.Worlds.{state_after, world_of, is_of_machine, AreOfMachine, Follows}
 use Rattle.css_semantics.specs.Memory.{Memory, after}
 use Rattle.css_semantics.specs.Units.{Metered, metered, spending}
@@ -11,9 +11,9 @@ use Rattle.css_vm.specs.declared.code.MarkKind.{MarkKind}
 use Rattle.css_vm.specs.declared.code.MarkKind.TheVariants as marks
 use Rattle.css_vm.specs.declared.machine.Event.TheVariants as events
 use Rattle.css_vm.specs.declared.machine.Submitted.{Submitted}
-use Rattle.css_vm.specs.Code.{Code}
-use Rattle.css_vm.specs.Machine.{State, exec}
-use Rattle.css_vm.specs.Events.{Reaches}
+use Rattle.css_vm.specs.Code.{Routine, Code}
+use Rattle.css_vm.specs.Machine.{State, Begin, At, go_on, exec}
+use Rattle.css_vm.specs.Events.{Reaches, behind_call}
 use Rattle.css_small_code.specs.Marks.{HasNoMarks}
 use Rattle.cssrun.proofs.Exec.{Extends, IsUnmarked, exec-extends}
 
@@ -56,13 +56,21 @@ module _ (code : Code) (plain : HasNoMarks code) (old new : State) (space space'
       let grown = exec-extends w code plain n old [] in
       subst (λ t. AllByRecursion (λ (i : Item). IsUnmarked i.action) t) (sym (append-nil grown.news) ∙ sym grown.is ∙ is) grown.all
 
+  -- behind the item of a task's call there is no way that hasn't it
+  task_marked : (s : Submitted) (f : Routine) (call : Call) (state : State) (later : Tape)
+      → AllByRecursion (λ (i : Item). IsUnmarked i.action) (tape_of (then_do (behind_call (passed space) s.line s.function f s.arguments.items 0 state (item (Calls call) s.line ∷ later)) (go_on (exec (passed space) code 0)))) → ⊥
+  unfolding passed passing
+  task_marked s f call (Begin function arguments line) later all = all.0
+  task_marked s f call (At a callers place []) later all = all.0
+  task_marked s f call (At a callers place (owed ∷ rest)) later all = all.1.0
+
   pub no_task : (s : Submitted) → Reaches (metered reply_in) (spending after) code old space (events.Submit s) new space' → ⊥
   unfolding passed passing
   no_task s reaches =
       let w = passed space in
       let there = reaches.does w [] (follows space) in
       let does = there.3 in
-      (unmarked w (does.0 + 1) _ (ap tape_of (does.5 (λ tape call line. refl) 0))).1.0
+      task_marked s does.1 _ new _ (unmarked w (does.0 + 1) _ (ap tape_of (does.5 0)))
 
   pub only_asks : (kind : MarkKind) (line : ℕ) → Reaches (metered reply_in) (spending after) code old space (events.Mark kind line) new space' → kind ≡ marks.Started
   unfolding passed passing

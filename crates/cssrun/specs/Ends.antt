@@ -1,32 +1,10 @@
 -- How a call of the program ends, for its sinks.
 use Rattle.std.specs.Prelude.{◌≡◌, ℕ, ◌⊎◌, List, ◌++◌, Option, IfSome}
-use Rattle.css_io.specs.Outside.{Rose, Appends, AppendsPrefix}
+use Rattle.css_io.specs.Outside.{Rose}
+use Rattle.css_io.specs.Changes.{Change, HasFailed, Got, GotPrefix}
 use Rattle.css_words.specs.declared.request.Request.{Request}
 use Rattle.cssrun.specs.Request.{Asks}
 use Rattle.cssrun.specs.Answer.{Answer, IsAnswer, no_memory, read_fault}
-
--- What a sink tells of a call: the bytes that it had and has, and its counts of faults.
-pub record Change : Type 0 where
-  pub before : Option (List ℕ)
-  pub after : Option (List ℕ)
-  pub faults_before : ℕ
-  pub faults_after : ℕ
-
-abbrev pub change : {S : Type 0} → (S → Option (List ℕ)) → (S → ℕ) → S → S → Change
-change written faults old new =
-    record { before = written old; after = written new; faults_before = faults old; faults_after = faults new }
-
--- the count of faults rose
-abbrev pub HasFailed : Change → Type 0
-HasFailed c = Rose c.faults_before c.faults_after
-
--- got exactly these bytes
-abbrev pub Got : Change → List ℕ → Type 0
-Got c bytes = Appends c.before c.after bytes
-
--- got a prefix of these bytes
-abbrev pub GotPrefix : Change → List ℕ → Type 0
-GotPrefix c bytes = AppendsPrefix c.before c.after bytes
 
 -- got a prefix of these bytes, and then exactly the line
 abbrev pub GotPrefixAnd : Change → List ℕ → List ℕ → Type 0

@@ -1,6 +1,7 @@
 pub mod Request
 pub mod Answer
+pub mod RunAnswer
 pub mod Ends
-pub mod Pending
-pub mod Ran
+pub mod RunEnds
+pub mod Headline
 pub mod Running

@@ -15,9 +15,9 @@ use Rattle.css_vm.specs.Cells.{int_of}
 use Rattle.css_vm.specs.Code.{Code}
 use Rattle.css_vm.specs.Machine.{State, Halt, frame_of, exec, main_ends, target}
 use Rattle.cssrun.specs.Answer.{ending_of}
-use Rattle.cssrun.specs.Ends.{Change, Got}
-use Rattle.cssrun.specs.declared.run.Ran.{Ran}
-use Rattle.cssrun.specs.Ran.{RanAs}
+use Rattle.css_io.specs.Changes.{Change, Got}
+use Rattle.css_main_side.specs.declared.ran.Ran.{Ran}
+use Rattle.css_main_side.specs.Ran.{RanAs}
 
 -- a program's outcome as its code's
 abbrev pub halted : Outcome ℤ → Outcome (Option ℤ)

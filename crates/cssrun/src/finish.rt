@@ -1,5 +1,6 @@
 //! The last line of a report.
-ghost use Rattle.cssrun.specs.Ends.{Finishes, change};
+ghost use Rattle.css_io.specs.Changes.{change};
+ghost use Rattle.cssrun.specs.Ends.{Finishes};
 
 use css_io::{Sink, write_all};
 

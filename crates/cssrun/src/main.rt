@@ -5,29 +5,33 @@ mod built;
 mod ending;
 mod finish;
 mod laws;
-mod pending;
 mod run;
+mod run_text;
 #[cfg(test)]
 mod tests;
 mod top;
+mod whole;
 
 use css_base::Words;
-use css_io::{FileShelf, StdSink, StdSource};
+use css_io::{FileShelf, OpenGate, StdSink, StdSource};
 use std::process::ExitCode;
 use std::rt::Env;
 use std::{env, io};
 pub use top::plain_top;
+pub use whole::top;
 
 fn main(rt: HostRuntime) -> ExitCode {
     let words = words_of(&rt);
     let (stdout, stderr) = (rt.stdout(), rt.stderr());
-    let status = plain_top(
+    let status = top(
+        &rt,
         rt.alloc(),
         &words,
         &mut FileShelf::new(&rt),
         &mut StdSource::new(rt.reader()),
         &mut StdSink::new(io::writer(&stdout)),
         &mut StdSink::new(io::writer(&stderr)),
+        OpenGate::new(),
     );
     ExitCode::from(status)
 }

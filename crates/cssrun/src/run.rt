@@ -12,28 +12,17 @@ ghost use Rattle.css_vm.specs.Soundness.{Spot, IsSound, Fits};
 ghost use Rattle.css_vm.specs.Events.{IsStacked};
 ghost use Rattle.css_small_code.specs.Marks.{HasNoMarks};
 ghost use Rattle.cssrun.specs.Answer.{ending_of};
-ghost use Rattle.cssrun.specs.Ends.{change};
+ghost use Rattle.css_io.specs.Changes.{change};
 ghost use Rattle.cssrun.specs.Running.{ComesTo, GoesOn, EndsRun, left_with, reply_to_leaving};
-ghost use Rattle.cssrun.specs.Ran.{RanAs};
+ghost use Rattle.css_main_side.specs.Ran.{RanAs};
 
-use crate::pending::Pending;
 use css_base::{Ending, IntType, Line, Stop, Who};
 use css_io::Sink;
+use css_main_side::{Pending, Ran};
 use css_mem::MainMemory;
 use css_num::convert;
 use css_vm::{Code, Event, Function, Machine, Space};
 use std::alloc::Global;
-
-/// How main's run ends.
-#[derive(Drop, Debug)]
-pub enum Ran {
-    /// With a result, or at a fault or a rule.
-    Ended(Ending),
-    /// The sink failed.
-    WriteFault,
-    /// There was no memory.
-    NoMemory,
-}
 
 /// Runs main of code without marks in a flat memory of so many bytes, at least 1,069,056, and with so many units, and passes its
 /// output to the sink, in pieces of at most 65,536 bytes. What main wrote before a fault or a rule is passed on too. `NoMemory` also

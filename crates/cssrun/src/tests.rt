@@ -1,15 +1,19 @@
 //! Calls of the program over files, input and sinks in memory.
 ghost use Rattle.std.specs.Prelude.{◌≤◌};
 
-use crate::run::{Ran, run_main};
+use crate::run::run_main;
 use crate::top::plain_top;
+use crate::whole::top;
 use css_base::{Ending, Limits, Line, Rule, Stop, Who, Words};
-use css_io::{MemShelf, MemSink, MemSource, read_all};
+use css_io::{MemShelf, MemSink, MemSource, OpenGate, read_all};
+use css_main_side::Ran;
 use css_small::{numbers_fit, read_program};
 use css_small_code::make_code;
 use std::alloc::{AllocError, Global};
 use std::process::Abort;
+use std::sync::Wait;
 use std::test::Fail;
+use std::thread::Threads;
 
 const PUT_A: &str = "int main(void) { putchar(97); return 0; }";
 
@@ -58,6 +62,41 @@ fn words_of(alloc: Global, words: &[&str]) -> Result<Words, AllocError> {
         owned.push(String::from_str(alloc, word)?)?;
     }
     Ok(Words::new(owned))
+}
+
+/// Calls the whole program with these words and one file.
+fn call_top<H: AllocGlobal + Threads + Wait + Clone + Drop + Send + Sync + 'static>(
+    rt: &H,
+    words: &[&str],
+    text: &str,
+) -> Result<Called, Fail> {
+    let alloc = rt.alloc();
+    let files = vec![in alloc;
+        (
+            String::from_str(alloc, "f.c")?,
+            text.as_bytes().to_vec(alloc)?
+        ),
+    ]?;
+    let mut shelf = MemShelf::new(files, Vec::new(alloc));
+    let mut input = MemSource::new(Vec::new(alloc), Vec::new(alloc));
+    let mut out = MemSink::new(alloc, 64, Vec::new(alloc))?;
+    let mut report = MemSink::new(alloc, 64, Vec::new(alloc))?;
+    let words = words_of(alloc, words)?;
+    let status = top(
+        rt,
+        alloc,
+        &words,
+        &mut shelf,
+        &mut input,
+        &mut out,
+        &mut report,
+        OpenGate::new(),
+    );
+    Ok(Called {
+        out,
+        report,
+        status,
+    })
 }
 
 /// Calls the program with these words and one file, and sees that no input was taken.
@@ -130,6 +169,49 @@ fn texts_are_answered(rt: HostRuntime) -> Result<(), Fail> {
     for (text, out, report, status) in rows {
         let words = ["cssrun", "erased", "f.c"];
         let called = call(&rt, &words, ("f.c", text.as_bytes()), &NOTHING_FAILS)?;
+        expect(&rt, &called, out, report, status);
+    }
+    Ok(())
+}
+
+/// A task that adds 1, one that writes past its argument, and a main that doesn't wait.
+#[test]
+fn tasks_run_in_order(rt: HostRuntime) -> Result<(), Fail> {
+    let waiting =
+        "#pragma css task inout(p)\nvoid inc(int *p) { p[0] = p[0] + 1; }\nint main(void) {\n  int x = 4;\n  #pragma css start\n  inc(&x);\n  #pragma css barrier\n  putchar(48 + x);\n  #pragma css finish\n  return 0;\n}\n";
+    let outside =
+        "#pragma css task inout(p)\nvoid inc(int *p) { p[1] = p[0] + 1; }\nint main(void) {\n  int x = 4;\n  #pragma css start\n  inc(&x);\n  #pragma css barrier\n  putchar(48 + x);\n  #pragma css finish\n  return 0;\n}\n";
+    let unsynchronised =
+        "#pragma css task inout(p)\nvoid inc(int *p) { p[0] = p[0] + 1; }\nint main(void) {\n  int x = 4;\n  #pragma css start\n  inc(&x);\n  putchar(48 + x);\n  #pragma css finish\n  return 0;\n}\n";
+    let rows = [
+        ("run", waiting, "5", "result 0\n", 0),
+        (
+            "run",
+            outside,
+            "",
+            "rule X9 OutsideArguments line 2 task 0\n",
+            5,
+        ),
+        (
+            "run",
+            unsynchronised,
+            "",
+            "rule X8 Unsynchronised line 7 main\n",
+            5,
+        ),
+        (
+            "run",
+            "int main(void) { return x; }",
+            "",
+            "static S0 NotBuilt line 1\n",
+            3,
+        ),
+        ("erased", waiting, "5", "result 0\n", 0),
+        ("erased", outside, "4", "result 0\n", 0),
+        ("sim", waiting, "", "words refused\n", 2),
+    ];
+    for (command, text, out, report, status) in rows {
+        let called = call_top(&rt, &["cssrun", command, "f.c"], text)?;
         expect(&rt, &called, out, report, status);
     }
     Ok(())

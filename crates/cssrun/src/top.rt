@@ -8,31 +8,33 @@ ghost use Rattle.css_small_code.specs.Marks.{HasNoDirectives};
 ghost use Rattle.css_words.specs.declared.request.Request.{Request};
 ghost use Rattle.cssrun.specs.Answer.{Answer, IsOutside, IsAnswer, IsTextAnswer, IsRunAnswer, words_refused, read_fault, no_memory, static_line, ending_line, ending_status};
 ghost use Rattle.cssrun.specs.Request.{Asks, AreRefused};
-ghost use Rattle.cssrun.specs.Ends.{Change, change, HasFailed, Got, Ends, Finishes, IsText, IsWhole, IsCutShort, IsStarved, IsSmooth, ShelfFailed, PlainEnds};
+ghost use Rattle.css_io.specs.Changes.{Change, change, HasFailed, Got};
+ghost use Rattle.cssrun.specs.Ends.{Ends, Finishes, IsText, IsWhole, IsCutShort, IsStarved, IsSmooth, ShelfFailed, PlainEnds};
 
 use crate::built::BUILT;
 use crate::ending::{ending_status, ending_text, static_text};
 use crate::finish::{NO_MEMORY, READ_FAULT, WORDS_REFUSED, WRITE_FAULT_STATUS, finish};
 use crate::laws::one_answer;
-use crate::run::{Ran, run_main};
+use crate::run::run_main;
 use css_base::{Ending, FrontFault, Limits, Line, StaticFault, StaticName, Words};
 use css_io::{Shelf, ShelfFault, Sink, Source};
 use css_lex::erase;
+use css_main_side::Ran;
 use css_small::{Program, numbers_fit, one_program, read_program};
 use css_small_code::{enough_fuel, make_code, more_fuel};
 use css_words::{Request, WordsFault, read_words};
 use std::alloc::Global;
 
 /// The most bytes of a program's text.
-const TEXT_LIMIT: usize = 4_194_304;
+pub(crate) const TEXT_LIMIT: usize = 4_194_304;
 
 const WORDS_REFUSED_STATUS: u8 = 2;
 
 const STATIC_STATUS: u8 = 3;
 
-const READ_FAULT_STATUS: u8 = 6;
+pub(crate) const READ_FAULT_STATUS: u8 = 6;
 
-const NO_MEMORY_STATUS: u8 = 8;
+pub(crate) const NO_MEMORY_STATUS: u8 = 8;
 
 /// The whole program but for the commands that wait: reads the words, then the file that they name, then runs its main with the
 /// pragmas erased, in the memory and with the units that they ask for. What main prints goes to `out`, and how it ended to `report`.
@@ -87,6 +89,10 @@ pub fn plain_top<S: Shelf, I: Source, O: Sink, R: Sink>(
     // What isn't read is as it was.
     ensures input { input.new ≡ input.old }
     ensures untouched { AreRefused words.now → (shelf.new ≡ shelf.old) × (out.new ≡ out.old) }
+
+    // All of it in one: the ways in which a call ends.
+    ensures ends { PlainEnds words.now (S.file shelf.old) (S.faults shelf.old) (S.faults shelf.new)
+        (change O.written O.faults out.old out.new) (change R.written R.faults report.old report.new) result }
 {
     let _input = input;
     // Clauses that compare a call's answer with another one rest on there being no other.
@@ -164,7 +170,7 @@ fn run_text<O: Sink, R: Sink>(
 }
 
 // S0 with line 1.
-fn not_built() -> StaticFault
+pub(crate) fn not_built() -> StaticFault
     ensures name { result.name ≡ StaticName.NotBuilt }
     ensures line { result.line ≡ 1 }
 {
@@ -175,7 +181,7 @@ fn not_built() -> StaticFault
 }
 
 // Reports a static rule that the text breaks.
-fn refuse<R: Sink>(alloc: Global, fault: &StaticFault, report: &mut R) -> u8
+pub(crate) fn refuse<R: Sink>(alloc: Global, fault: &StaticFault, report: &mut R) -> u8
     ensures { Finishes (change R.written R.faults report.old report.new) (static_line fault.now.name fault.now.line) 3 result
         ⊎ Finishes (change R.written R.faults report.old report.new) no_memory 8 result }
 {
@@ -212,7 +218,7 @@ fn run_program<O: Sink, R: Sink>(
 }
 
 // Reports how a run ended.
-fn end<R: Sink>(alloc: Global, ending: &Ending, report: &mut R) -> u8
+pub(crate) fn end<R: Sink>(alloc: Global, ending: &Ending, report: &mut R) -> u8
     ensures { Finishes (change R.written R.faults report.old report.new) (ending_line ending.now) (ending_status ending.now) result
         ⊎ Finishes (change R.written R.faults report.old report.new) no_memory 8 result }
 {

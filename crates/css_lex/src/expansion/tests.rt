@@ -1,6 +1,7 @@
 //! Macros and what replaces a token. What is wanted comes from C99 6.10.3 and 7.17.
 
 use super::*;
+use crate::macro_token::MacroToken;
 use css_base::{Bytes, IntType};
 use std::process::Abort;
 use std::test::Fail;
@@ -62,7 +63,7 @@ fn replaced(rt: &impl Abort, alloc: Global, macros: &Macros, word: &str) -> Resu
     let mut tokens = Vec::new(alloc);
     macros.replace(
         alloc,
-        token(alloc, word)?.to_kind(alloc)?,
+        token(alloc, word)?.to_kind()?,
         &span,
         &mut counts,
         &mut tokens,
@@ -180,7 +181,7 @@ fn counted(alloc: Global, macros: &Macros, name: &str) -> Result<(bool, u32, u32
     };
     let mut counts = Counts::new();
     let mut tokens = Vec::new(alloc);
-    let kind = token(alloc, name)?.to_kind(alloc)?;
+    let kind = token(alloc, name)?.to_kind()?;
     match macros.replace(alloc, kind, &span, &mut counts, &mut tokens) {
         Ok(()) => Ok((true, counts.tokens, counts.names)),
         Err(ExpansionFault::TooMany) => Ok((false, counts.tokens, counts.names)),
@@ -197,6 +198,23 @@ fn many_tokens_and_names(rt: HostRuntime) -> Result<(), Fail> {
     let none = doubling(alloc, "", 40)?;
     assert_eq!(rt; counted(alloc, &none, "A18")?, (true, 0, 524_287));
     assert!(rt; !counted(alloc, &none, "A40")?.0);
+    Ok(())
+}
+
+#[test]
+fn long_names(rt: HostRuntime) -> Result<(), Fail> {
+    let alloc = rt.alloc();
+    let mut long = String::new(alloc);
+    for _ in 0..1_000_000u32 {
+        long.push('L')?;
+    }
+    let twice = format!(in alloc; "{long} {long}")?;
+    let mut macros = doubling(alloc, twice.as_str(), 19)?;
+    assert_eq!(rt; counted(alloc, &macros, "A18")?, (true, 524_288, 524_287));
+    assert!(rt; !counted(alloc, &macros, "A19")?.0);
+    define(alloc, &mut macros, long.as_str(), "")?;
+    assert_eq!(rt; counted(alloc, &macros, "A17")?, (true, 0, 524_287));
+    assert!(rt; !counted(alloc, &macros, "A18")?.0);
     Ok(())
 }
 

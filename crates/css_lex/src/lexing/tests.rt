@@ -106,6 +106,7 @@ fn lexemes(rt: HostRuntime) -> Result<(), Fail> {
             "... = *= /= %= += -= <<= >>= &= ^= |= ,",
         ),
         ("a+++++b >>= .. x.y", "a ++ ++ + b >>= . . x . y"),
+        ("a<<<=b...->--->&&&|||", "a << <= b ... -> -- -> && & || |"),
         ("_a1 int while9", "_a1 int while9"),
         (
             "0 7 1 2u 3l 4ul 5LL 6uLL 7LLU 0x1f 017",
@@ -146,7 +147,15 @@ fn lexemes(rt: HostRuntime) -> Result<(), Fail> {
             "in\\\nt 1\\\n2 \"a\\\nb\" '\\\\\nn' +\\\r\n= x",
             "int 12i \"ab\" '10 += x",
         ),
+        (
+            "x\r\\\n\ny 0\\\nx1\\\r\n7 '\\\\\n0' .\\\n..",
+            "x y 23i '0 ...",
+        ),
         ("a/**/b/*\n*/c//d\ne/ **/", "a b c e / * * /"),
+        (
+            "a/***/b/* * /**/c/*/ */d/\\\n/e\nf/\\\n**\\\n/g",
+            "a b c d f g",
+        ),
         ("\"/*\" '/' // \"\n\"//\" /* \x01 */", "\"/*\" '47 \"//\""),
     ] {
         check_tokens(&rt, rt.alloc(), text, wanted)?;
@@ -176,6 +185,7 @@ fn hash_lines(rt: HostRuntime) -> Result<(), Fail> {
             "#pragma css task input(a)\n#pragma css",
             "< task input ( a ) > < >",
         ),
+        ("#define X css\n#pragma X y\n#pragma css X", "< css >"),
         (
             "#define S \"a\"\nS \"b\"\n#pragma css \nS",
             "\"ab\" < > \"a\"",
@@ -200,6 +210,7 @@ fn refusals(rt: HostRuntime) -> Result<(), Fail> {
         ("x\n/* a\n", StaticName::BadToken, 2),
         ("#pragma x /*/\n", StaticName::BadToken, 1),
         ("a\n\\ b", StaticName::BadToken, 2),
+        ("a\\\\\n\nb", StaticName::BadToken, 1),
         ("#define A @", StaticName::BadToken, 1),
         ("#define A # x", StaticName::BadToken, 1),
         ("#define A 1\n#define A 2 @", StaticName::BadToken, 2),
@@ -247,8 +258,8 @@ fn doubling(alloc: Global, first: &str, macros: u32) -> Result<String, Fail> {
 
 #[test]
 fn hostile_texts(rt: HostRuntime) -> Result<(), Fail> {
-    let mut full = doubling(rt.alloc(), " x", 18)?;
-    full.push_str("A18 A18 A18 A18")?;
+    let mut full = doubling(rt.alloc(), " ;;;;", 18)?;
+    full.push_str("A18")?;
     check_refused(&rt, rt.alloc(), full.as_str(), StaticName::BadMacro, 20)?;
     let mut empty = doubling(rt.alloc(), "", 40)?;
     empty.push_str("A40")?;

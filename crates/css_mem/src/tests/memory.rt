@@ -3,6 +3,7 @@
 use super::codes::{OUTSIDE, SIZE};
 use crate::MainMemory;
 use css_base::{Rule, Stop};
+use css_record::Window;
 use css_vm::{Space, Width};
 use std::process::Abort;
 use std::test::Fail;
@@ -72,5 +73,33 @@ fn limits(rt: HostRuntime) -> Result<(), Fail> {
         memory.pop_frame(0)?;
         assert_eq!(&rt; memory.push_frame(0), Ok(SIZE - bytes));
     }
+    Ok(())
+}
+
+// Rows are written and copied in order, and what lies between them stays.
+#[test]
+fn windows(rt: HostRuntime) -> Result<(), Fail> {
+    let mut memory = MainMemory::new(rt.alloc(), SIZE, false)?;
+    memory.push_frame(16)?;
+    let part = Window {
+        base: 2_097_137,
+        rows: 2,
+        width: 3,
+        stride: 8,
+    };
+    memory.write_back(part, &[1, 2, 3, 4, 5, 6]);
+    let bytes = memory.snapshot(rt.alloc(), part)?;
+    assert_eq!(&rt; bytes.bytes(), [1, 2, 3, 4, 5, 6].as_slice());
+    assert_eq!(&rt;
+        memory.load(2_097_136, Width::W64),
+        Ok(0x0001_0203_0000_0000)
+    );
+    assert_eq!(&rt;
+        memory.load(2_097_144, Width::W64),
+        Ok(0x0004_0506_0000_0000)
+    );
+    assert_eq!(&rt; memory.place(), 2_097_136);
+    assert_eq!(&rt; memory.has(2_097_148, 4), true);
+    assert_eq!(&rt; memory.has(2_097_149, 4), false);
     Ok(())
 }

@@ -1,4 +1,4 @@
-use Rattle.std.proofs.Common.{◌+◌, ◌∙◌, ◌++◌, ◌∷◌, ap, ap₂, sym, subst, drop, length, arith}
+use Rattle.std.proofs.Common.{◌+◌, ◌∙◌, ◌++◌, ap, ap₂, sym, subst, drop, length, arith}
 use Rattle.css_lex.specs.Refusals.{bad_bytes, unended_comments}
 use Rattle.css_lex.specs.Rising.{AreBetween}
 use Rattle.css_lex.specs.Found.{IsFirst}

@@ -1,4 +1,4 @@
-use Rattle.std.proofs.Common.{◌+◌, ◌∙◌, sym, ap, refl, arith, ◌||◌, ◌&&◌}
+use Rattle.std.proofs.Common.{◌+◌, ◌∙◌, sym, ap, refl, ◌||◌}
 use Rattle.std.specs.Prelude.{slice_index, ◌==◌, drop}
 use Rattle.css_lex.specs.CommentEnd.{plain_bytes, has_end}
 use Rattle.css_lex.proofs.CommentBytes.{end_step}

@@ -1,7 +1,7 @@
 use Rattle.std.proofs.Common.{◌∙◌, sym, ap, drop, not, ◌∷◌}
 use Rattle.css_lex.specs.Refusals.{is_unended}
 use Rattle.css_lex.specs.CommentEnd.{plain_bytes}
-use Rattle.css_lex.proofs.CommentBytes.{unended_is, no_slash, no_star}
+use Rattle.css_lex.proofs.CommentBytes.{unended_is}
 use Rattle.css_lex.proofs.bad_bytes.is_unended_comment.Goals as goal
 
 pub returns : goal.returns

@@ -1,5 +1,4 @@
-use Rattle.std.proofs.Common.{◌∙◌, sym, ap, drop, ◌&&◌, true}
-use Rattle.std.specs.Prelude.{◌==◌}
+use Rattle.std.proofs.Common.{◌∙◌, sym, ap, drop, ◌&&◌}
 use Rattle.std.proofs.lemmas.Bool.{eq-eqb}
 use Rattle.css_lex.specs.Refusals.{is_unended, begins_unended}
 use Rattle.css_lex.specs.CommentEnd.{plain_bytes}

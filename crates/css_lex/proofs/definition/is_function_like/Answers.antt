@@ -1,11 +1,10 @@
-use Rattle.std.proofs.Common.{◌≡◌, ◌∙◌, ◌<◌, sym, ap, length, arith, drop, get_or, slice_index}
+use Rattle.std.proofs.Common.{◌≡◌, ◌∙◌, ◌<◌, ap, length, arith, slice_index}
 use Rattle.std.specs.Prelude.{nat_eq}
 use Rattle.std.proofs.lemmas.List.{length-map, get_or-map}
-use Rattle.css_lex.specs.Source.{bytes_of}
 use Rattle.css_lex.specs.Longest.{pieces_of}
 use Rattle.css_lex.specs.Reading.{behind_first}
 use Rattle.css_lex.proofs.Erasing.{at_place}
-use Rattle.css_lex.proofs.DefinitionWords.{opens_at, opens_none}
+use Rattle.css_lex.proofs.DefinitionWords.{opens_at}
 use Rattle.css_lex.proofs.definition.is_function_like.Goals as goal
 
 pub returns-then-behind-line : goal.returns-then-behind-line

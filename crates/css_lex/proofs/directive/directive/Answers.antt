@@ -2,7 +2,6 @@ use Rattle.std.proofs.Common.{◌≡◌, ◌<◌, ◌∙◌, sym, ap, subst, len
 use Rattle.css_lex.specs.declared.line_kind.LineKind.TheVariants as kinds
 use Rattle.css_lex.specs.Source.{bytes_of}
 use Rattle.css_lex.specs.LineKinds.{line_kind}
-use Rattle.std.proofs.lemmas.List.Elements.{All-get_or}
 use Rattle.css_lex.proofs.LineBreaches.{all_inside}
 use Rattle.css_lex.proofs.Hashes.{blanks, has_hash, hash_is}
 use Rattle.css_lex.proofs.directive.directive.Goals as goal

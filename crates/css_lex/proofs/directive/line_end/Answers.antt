@@ -1,7 +1,5 @@
-use Rattle.std.proofs.Common.{◌∙◌, ◌+◌, ◌-◌, sym, ap, length, arith, ◌<◌}
-use Rattle.std.proofs.lemmas.List.Elements.{All-get_or}
-use Rattle.css_lex.proofs.Erasing.{at_place}
-use Rattle.css_lex.proofs.LineEnds.{end_blank, end_full, end_last}
+use Rattle.std.proofs.Common.{◌∙◌, ◌-◌, sym, length, arith, ◌<◌}
+use Rattle.css_lex.proofs.LineEnds.{end_blank, end_full}
 use Rattle.css_lex.proofs.directive.line_end.Goals as goal
 
 pub loop-from-preserved : goal.loop-from-preserved

@@ -1,4 +1,3 @@
-use Rattle.std.proofs.Common.{◌≡◌, ◌+◌, ◌++◌}
 use Rattle.std.specs.Vec.Iter.{into_iter_items, into_iter_len}
 use Rattle.css_base.specs.Tokens.{lexemes}
 use Rattle.css_lex.specs.MacroTables.{table_of}

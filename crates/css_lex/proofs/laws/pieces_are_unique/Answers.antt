@@ -1,5 +1,5 @@
 use Rattle.std.proofs.Common.{◌∙◌, sym}
-use Rattle.css_lex.proofs.LinePieces.{consists, only}
+use Rattle.css_lex.proofs.LinePieces.{only}
 use Rattle.css_lex.proofs.laws.pieces_are_unique.Goals as goal
 
 pub returns : goal.returns

@@ -1,4 +1,4 @@
-use Rattle.std.proofs.Common.{◌≡◌, sym, ap, inl, inr, refl, Err, arith}
+use Rattle.std.proofs.Common.{ap, inr, Err, arith}
 use Rattle.css_lex.proofs.Readings.{breaks}
 use Rattle.css_lex.proofs.lexing.lex.Goals as goal
 

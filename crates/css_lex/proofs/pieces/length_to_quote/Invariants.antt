@@ -1,4 +1,4 @@
-use Rattle.std.proofs.Common.{◌≡◌, ◌+◌, ◌-◌, ◌≤◌, length, drop}
+use Rattle.std.proofs.Common.{◌≡◌, ◌-◌, ◌≤◌, length, drop}
 use Rattle.std.specs.Prelude.{false}
 use Rattle.css_lex.specs.Longest.{closed_length, more_of}
 use Rattle.css_lex.proofs.pieces.length_to_quote.Given as goal

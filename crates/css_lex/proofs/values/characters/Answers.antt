@@ -1,4 +1,4 @@
-use Rattle.std.proofs.Common.{◌+◌, arith, sym, drop, ap, ◌∙◌, length, length-drop}
+use Rattle.std.proofs.Common.{◌+◌, arith, sym, ap, ◌∙◌, length, length-drop}
 use Rattle.std.proofs.lemmas.Bool.{ne_eqb}
 use Rattle.css_lex.specs.Values.{escape_at}
 use Rattle.css_lex.proofs.Rests.{rest_is}

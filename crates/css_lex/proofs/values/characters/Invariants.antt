@@ -1,4 +1,4 @@
-use Rattle.std.proofs.Common.{◌≡◌, ◌+◌, ◌-◌, ◌*◌, ◌≤◌, ◌++◌, length, map, drop, fold}
+use Rattle.std.proofs.Common.{◌≡◌, ◌-◌, ◌≤◌, ◌++◌, length, drop}
 use Rattle.std.specs.Prelude.{option_map}
 use Rattle.css_lex.specs.Values.{characters}
 use Rattle.css_lex.proofs.values.characters.Given as goal

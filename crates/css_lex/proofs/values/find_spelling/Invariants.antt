@@ -1,4 +1,4 @@
-use Rattle.std.proofs.Common.{◌≡◌, ◌+◌, ◌-◌, ◌*◌, ◌≤◌, ◌++◌, length, map, drop, fold}
+use Rattle.std.proofs.Common.{◌≡◌, map, drop}
 use Rattle.css_lex.specs.Values.{suffix_in}
 use Rattle.css_lex.proofs.values.find_spelling.Given as goal
 

@@ -1,4 +1,4 @@
-use Rattle.std.proofs.Common.{◌≡◌, ◌+◌, ◌-◌, ◌*◌, ◌≤◌, ◌++◌, length, map, drop, fold}
+use Rattle.std.proofs.Common.{◌≡◌, drop}
 use Rattle.css_lex.specs.Values.{first_type}
 use Rattle.css_lex.proofs.values.first_type.Given as goal
 

@@ -1,4 +1,4 @@
-use Rattle.std.proofs.Common.{◌≡◌, ◌+◌, ◌-◌, ◌*◌, ◌≤◌, ◌++◌, length, map, drop, fold}
+use Rattle.std.proofs.Common.{◌≡◌, ◌+◌, ◌*◌, drop, fold}
 use Rattle.css_lex.specs.Values.{value_in, digit_value}
 use Rattle.css_lex.proofs.values.value_of.Given as goal
 

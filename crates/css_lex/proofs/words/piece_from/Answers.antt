@@ -1,8 +1,7 @@
-use Rattle.std.proofs.Common.{refl, ◌+◌, length, arith, ap, ◌∙◌, length-drop}
-use Rattle.std.proofs.lemmas.List.{length-map}
+use Rattle.std.proofs.Common.{refl, length, arith, ap, length-drop}
 use Rattle.std.specs.Prelude.{slice_range}
 use Rattle.css_lex.proofs.Rests.{rest_is}
-use Rattle.css_lex.proofs.WordsRead.{found_piece, piece_some, piece_inside}
+use Rattle.css_lex.proofs.WordsRead.{found_piece, piece_inside}
 use Rattle.css_lex.proofs.Within.{size_within}
 use Rattle.css_lex.proofs.words.piece_from.Goals as goal
 

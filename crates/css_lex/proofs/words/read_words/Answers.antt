@@ -1,8 +1,8 @@
 use Rattle.std.proofs.Common.{◌∙◌, sym, ap, subst, Some, option_map}
-use Rattle.std.proofs.lemmas.List.{length-map, map_push}
+use Rattle.std.proofs.lemmas.List.{map_push}
 use Rattle.css_base.specs.Tokens.{lexeme, lexemes}
 use Rattle.css_lex.specs.Words.{skip_behind}
-use Rattle.css_lex.proofs.WordsRead.{IsReading, none_read, one_read, one_passed, words_failed, failure_found, words_ended, failure_ended}
+use Rattle.css_lex.proofs.WordsRead.{IsReading, one_read, one_passed, words_failed, failure_found}
 use Rattle.css_lex.proofs.words.read_words.Goals as goal
 use Rattle.css_lex.proofs.words.read_words.Goals.{then-is_read+in_ok-word+in-Some+in_ok-push, else-is_read}
 

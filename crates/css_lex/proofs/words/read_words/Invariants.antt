@@ -1,4 +1,4 @@
-use Rattle.std.proofs.Common.{◌≡◌, ◌-◌, ◌≤◌, length}
+use Rattle.std.proofs.Common.{◌-◌, ◌≤◌, length}
 use Rattle.css_base.specs.Tokens.{lexemes}
 use Rattle.css_lex.proofs.WordsRead.{IsReading}
 use Rattle.css_lex.proofs.words.read_words.Given as goal

@@ -6,7 +6,7 @@ use Rattle.css_vm.specs.Code.{code_of}
 use Rattle.css_vm.specs.Machine.{Begin}
 use Rattle.css_vm.specs.Soundness.{Fits}
 use Rattle.css_vm.specs.Events.{IsStacked}
-use Rattle.cssrun.specs.Ends.{change}
+use Rattle.css_io.specs.Changes.{change}
 use Rattle.cssrun.specs.Running.{GoesOn}
 use Rattle.cssrun.proofs.run.run_main.Given as goal
 

@@ -1,6 +1,6 @@
 use Rattle.css_semantics.specs.Units.{with_units}
 use Rattle.css_vm.specs.Code.{code_of}
-use Rattle.cssrun.specs.declared.run.Ran.TheVariants.{NoMemory}
+use Rattle.css_main_side.specs.declared.ran.Ran.TheVariants.{NoMemory}
 use Rattle.cssrun.proofs.Parts.{goes_nowhere, goes_further, goes_to_end, gives_up}
 use Rattle.cssrun.proofs.run.run_on.Goals as goal
 

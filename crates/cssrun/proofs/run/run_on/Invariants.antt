@@ -4,7 +4,7 @@ use Rattle.css_semantics.specs.Units.{with_units}
 use Rattle.css_vm.specs.Code.{code_of}
 use Rattle.css_vm.specs.Soundness.{Fits}
 use Rattle.css_vm.specs.Events.{IsStacked}
-use Rattle.cssrun.specs.Ends.{change}
+use Rattle.css_io.specs.Changes.{change}
 use Rattle.cssrun.specs.Running.{GoesOn}
 use Rattle.cssrun.proofs.run.run_on.Given as goal
 

@@ -2,7 +2,7 @@ use Rattle.std.proofs.Common.{◌++◌, ◌∙◌, append_assoc, subst}
 use Rattle.css_vm.specs.Code.{code_of}
 use Rattle.css_vm.specs.Events.{IsOwedAt}
 use Rattle.cssrun.proofs.Parts.{fits_answered, stacked_answered}
-use Rattle.cssrun.proofs.Sinks.{AppendsPrefix-nothing, AppendsPrefix-front}
+use Rattle.css_main_side.proofs.Sinks.{AppendsPrefix-nothing, AppendsPrefix-front}
 use Rattle.cssrun.proofs.Turns.{output-running, running_ended, running_stopped, turn_out, turn_asked, at_place}
 use Rattle.cssrun.proofs.Unmarked.{no_task, only_asks}
 use Rattle.cssrun.proofs.run.turn.Goals as goal

@@ -1,6 +1,6 @@
 use Rattle.std.proofs.Common.{refl, ap, Err}
 use Rattle.cssrun.specs.Ends.{Unheard}
-use Rattle.cssrun.proofs.Sinks.{Appends-nothing}
+use Rattle.css_main_side.proofs.Sinks.{Appends-nothing}
 use Rattle.cssrun.proofs.Texts.{ends_refused}
 use Rattle.cssrun.proofs.Words.{asks_read, refused_unread}
 use Rattle.cssrun.proofs.top.answer_words.Goals as goal

@@ -2,7 +2,7 @@ use Rattle.std.proofs.Common.{refl, ap, Err}
 use Rattle.cssrun.specs.Answer.{IsTextAnswer}
 use Rattle.cssrun.specs.Ends.{Unread}
 use Rattle.cssrun.proofs.Endings.{ends_no_memory}
-use Rattle.cssrun.proofs.Sinks.{AppendsPrefix-nothing}
+use Rattle.css_main_side.proofs.Sinks.{AppendsPrefix-nothing}
 use Rattle.cssrun.proofs.Texts.{answered, answered_any}
 use Rattle.cssrun.proofs.top.erased.Goals as goal
 

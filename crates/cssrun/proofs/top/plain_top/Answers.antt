@@ -33,3 +33,6 @@ returns-clause-statuses g c = at_most_eight _ _ _ _ _ _ _ c.answer_words.ensures
 
 pub returns-clause-complete : goal.returns-clause-complete
 returns-clause-complete g c = smooth_status _ _ _ _ _ _ _ c.one_answer.ensures c.answer_words.ensures.ends
+
+pub returns-clause-ends : goal.returns-clause-ends
+returns-clause-ends g c = c.answer_words.ensures.ends

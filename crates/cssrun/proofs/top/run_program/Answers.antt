@@ -1,10 +1,10 @@
 use Rattle.css_vm.specs.Code.{code_of}
 use Rattle.css_small.specs.Tree.{program}
 use Rattle.cssrun.specs.Answer.{IsRunAnswer}
-use Rattle.cssrun.specs.Ends.{change}
+use Rattle.css_io.specs.Changes.{change}
 use Rattle.cssrun.proofs.Endings.{ends_no_memory, ends_out_failed}
 use Rattle.cssrun.proofs.Runs.{known, run_prefix, run_ended}
-use Rattle.cssrun.proofs.Sinks.{AppendsPrefix-nothing}
+use Rattle.css_main_side.proofs.Sinks.{AppendsPrefix-nothing}
 use Rattle.cssrun.proofs.top.run_program.Goals as goal
 
 pub returns-in_default : goal.returns-in_default

@@ -6,7 +6,7 @@ use Rattle.cssrun.specs.Answer.{IsRunAnswer, IsTextAnswer, Ended}
 use Rattle.cssrun.proofs.Directives.{no_directives}
 use Rattle.cssrun.proofs.Endings.{Ends-map, ends_no_memory}
 use Rattle.cssrun.proofs.OneAnswer.{run_answer_of}
-use Rattle.cssrun.proofs.Sinks.{Appends-nothing, AppendsPrefix-nothing}
+use Rattle.css_main_side.proofs.Sinks.{Appends-nothing, AppendsPrefix-nothing}
 use Rattle.cssrun.proofs.Texts.{text_refused}
 use Rattle.cssrun.proofs.top.run_text.Goals as goal
 

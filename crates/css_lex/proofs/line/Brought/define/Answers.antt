@@ -1,9 +1,7 @@
-use Rattle.std.proofs.Common.{◌≡◌, ◌∙◌, sym, ap, ap₂, subst, refl, length, map, false, true, All, List, Option, Some, None}
-use Rattle.std.proofs.lemmas.Bool.{not-true, not-false}
-use Rattle.css_base.specs.Tokens.{Kind, Lexeme, lexemes}
+use Rattle.std.proofs.Common.{◌≡◌, ◌∙◌, sym, ap, ap₂, subst, refl, length, map, All, Option, Some}
 use Rattle.css_lex.specs.declared.breach.Breach.{Breach}
 use Rattle.css_lex.specs.LineKinds.{line_kind}
-use Rattle.css_lex.specs.Macros.{IsPlain, defined, may_define}
+use Rattle.css_lex.specs.Macros.{IsPlain, may_define}
 use Rattle.css_lex.specs.MacroTables.{table_of}
 use Rattle.css_lex.specs.MacroTokens.{plain_kinds}
 use Rattle.css_lex.specs.Refusals.{line_breaches}
@@ -11,7 +9,6 @@ use Rattle.css_lex.specs.Found.{IsFound, least_of}
 use Rattle.css_lex.specs.HashLines.{front_name, behind_name, kind_at}
 use Rattle.css_lex.specs.LexState.{state_of, line_of}
 use Rattle.css_lex.proofs.LineBreaches.{all_inside}
-use Rattle.css_lex.proofs.NamedWords.{words_plain}
 use Rattle.css_lex.proofs.DefineLines.{define_pieces, no_name, no_object, one_definition, define_malformed, define_unspelled, define_other, define_done, plain_behind}
 use Rattle.css_lex.proofs.line.Brought.define.Goals as goal
 

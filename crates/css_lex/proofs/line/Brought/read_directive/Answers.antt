@@ -1,4 +1,4 @@
-use Rattle.std.proofs.Common.{◌≡◌, ◌+◌, ◌++◌, ◌∷◌, ◌∙◌, sym, ap, subst, refl, ℕ, length, [], List, Option, Some, None, Err}
+use Rattle.std.proofs.Common.{◌≡◌, ◌+◌, ◌++◌, ◌∷◌, ◌∙◌, sym, ap, subst, refl, ℕ, length, [], List, Option, Some, Err}
 use Rattle.std.proofs.lemmas.List.{map_push}
 use Rattle.css_base.specs.Tokens.{Lexeme, lexeme, lexemes}
 use Rattle.css_lex.specs.declared.breach.Breach.{Breach}

@@ -1,4 +1,4 @@
-use Rattle.std.proofs.Common.{◌≡◌, ◌+◌, ◌++◌, ◌∙◌, sym, ap, subst, refl, length, List, [], Option, Some, None, Err}
+use Rattle.std.proofs.Common.{◌+◌, ◌++◌, ◌∙◌, sym, ap, subst, refl, length, List, Option, Err}
 use Rattle.std.proofs.lemmas.Result.{on_ok_weaker}
 use Rattle.css_base.specs.Tokens.{Lexeme, lexemes}
 use Rattle.css_lex.specs.declared.breach.Breach.{Breach}

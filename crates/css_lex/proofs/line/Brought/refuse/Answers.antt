@@ -1,13 +1,9 @@
-use Rattle.std.proofs.Common.{◌≡◌, ◌∙◌, sym, ap, ap₂, subst, refl, length, List, Option, Some, None}
-use Rattle.std.proofs.lemmas.Result.{on_ok_weaker}
-use Rattle.css_base.specs.Tokens.{Lexeme, lexemes}
+use Rattle.std.proofs.Common.{◌≡◌, ◌∙◌, sym, ap, subst, Option, Some}
 use Rattle.css_lex.specs.declared.breach.Breach.{Breach}
 use Rattle.css_lex.specs.LineKinds.{line_kind}
 use Rattle.css_lex.specs.Refusals.{line_breaches}
 use Rattle.css_lex.specs.Found.{IsFound, least_of}
-use Rattle.css_lex.specs.HashLines.{only_name}
-use Rattle.css_lex.specs.LexState.{state_of, line_of, passes}
-use Rattle.css_lex.proofs.LineBreaches.{all_inside}
+use Rattle.css_lex.specs.LexState.{state_of, line_of}
 use Rattle.css_lex.proofs.UndefLines.{unknown_found}
 use Rattle.css_lex.proofs.line.Brought.refuse.Goals as goal
 

@@ -1,0 +1,14 @@
+pub mod Tapes
+pub mod Kept
+pub mod Asked
+pub mod Expressions
+pub mod Statements
+pub mod Functions
+pub mod Programs
+pub mod Verdicts
+pub mod Points
+pub mod Unmarked
+pub mod Others
+pub mod Spelled
+pub mod SpelledPrograms
+pub mod Limits

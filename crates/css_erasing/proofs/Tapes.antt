@@ -1,0 +1,85 @@
+-- Plain tapes.
+use Rattle.std.proofs.Common.{◌≡◌, ℕ, ◌+◌, ◌-◌, ◌≤◌, Bool, true, false, if◌then◌else◌, [], ◌∷◌, ◌++◌, refl, sym, ap, ◌∙◌, arith}
+use Rattle.std.proofs.lemmas.List.{append-nil}
+use Rattle.css_semantics.specs.Dialogue.{Action, Enter, Turn, Calls, Returns, Start, Finish, Barrier, Wait, Item, item, Tape, Outcome, tape_of, output, written_by}
+use Rattle.css_semantics.specs.Worlds.{state_after}
+use Rattle.css_semantics.specs.Memory.{Memory, after, memory_after}
+use Rattle.css_semantics.specs.Tasks.{is_started}
+use Rattle.css_semantics.specs.Units.{Metered, with_units, spending}
+use Rattle.css_erasing.specs.Plain.{is_of_tasks, plain, entries}
+use Rattle.css_small_code.proofs.Grows.{Grows}
+
+-- an item that isn't of tasks stays
+pub plain_stays : (action : Action) (line : ℕ) (tape : Tape) → is_of_tasks action ≡ false → plain (item action line ∷ tape) ≡ item action line ∷ plain tape
+plain_stays action line tape is = rw is refl
+
+pub entries_append : (newer tape : Tape) → entries (newer ++ tape) ≡ entries newer + entries tape
+entries_append [] tape = omega arith
+entries_append (i ∷ newer) tape = omega (arith, entries_append newer tape)
+
+-- what grows from a tape has no fewer entries
+pub more_entries : {A : Type 0} (o : Outcome A) (tape : Tape) → Grows tape o → entries tape ≤ entries (tape_of o)
+more_entries o tape h = omega (arith, ap entries h.1, entries_append h.0 tape)
+
+-- on a plain tape nothing was started
+started_by : (action : Action) (line : ℕ) (tape : Tape) → is_started (plain tape) ≡ false → is_started (plain (item action line ∷ tape)) ≡ false
+started_by (Enter size) line tape h = h
+started_by action line tape h = h
+
+pub never_started : (tape : Tape) → is_started (plain tape) ≡ false
+never_started [] = refl
+never_started (i ∷ tape) = started_by i.action i.line tape (never_started tape)
+
+-- a plain tape writes the same
+written_plainly : (action : Action) (line : ℕ) (tape : Tape) → output (plain tape) ≡ output tape → output (plain (item action line ∷ tape)) ≡ output tape ++ written_by action
+written_plainly (Calls call) line tape h = h ∙ sym (append-nil (output tape))
+written_plainly Returns line tape h = h ∙ sym (append-nil (output tape))
+written_plainly Start line tape h = h ∙ sym (append-nil (output tape))
+written_plainly Finish line tape h = h ∙ sym (append-nil (output tape))
+written_plainly Barrier line tape h = h ∙ sym (append-nil (output tape))
+written_plainly (Wait address) line tape h = h ∙ sym (append-nil (output tape))
+written_plainly action line tape h = ap (λ bytes. bytes ++ written_by action) h
+
+pub same_output : (tape : Tape) → output (plain tape) ≡ output tape
+same_output [] = refl
+same_output (i ∷ tape) = written_plainly i.action i.line tape (same_output tape)
+
+append_by : (b : Bool) (i : Item) (whole newer tape : Tape) → whole ≡ newer ++ tape → (if b then whole else i ∷ whole) ≡ (if b then newer else i ∷ newer) ++ tape
+append_by true i whole newer tape h = h
+append_by false i whole newer tape h = ap (λ t. i ∷ t) h
+
+pub plain_append : (newer tape : Tape) → plain (newer ++ tape) ≡ plain newer ++ plain tape
+plain_append [] tape = refl
+plain_append (i ∷ newer) tape = append_by (is_of_tasks i.action) i (plain (newer ++ tape)) (plain newer) (plain tape) (plain_append newer tape)
+
+module _ (start : Memory) (n : ℕ) where
+  -- the memory behind a plain tape, and the units that are left there
+  left_by : (action : Action) (line : ℕ) (tape : Tape) → state_after (spending after) (with_units start n) (plain tape) ≡ with_units (memory_after start tape) (n - entries tape)
+      → state_after (spending after) (with_units start n) (plain (item action line ∷ tape)) ≡ with_units (memory_after start (item action line ∷ tape)) (n - entries (item action line ∷ tape))
+  left_by (Enter size) line tape h = ap (λ s. spending after s (Enter size)) h ∙ ap (with_units (after (memory_after start tape) (Enter size))) (omega arith)
+  left_by Turn line tape h = ap (λ s. spending after s Turn) h ∙ ap (with_units (memory_after start tape)) (omega arith)
+  left_by (Calls call) line tape h = h ∙ ap (with_units (memory_after start tape)) (omega arith)
+  left_by Returns line tape h = h ∙ ap (with_units (memory_after start tape)) (omega arith)
+  left_by Start line tape h = h ∙ ap (with_units (memory_after start tape)) (omega arith)
+  left_by Finish line tape h = h ∙ ap (with_units (memory_after start tape)) (omega arith)
+  left_by Barrier line tape h = h ∙ ap (with_units (memory_after start tape)) (omega arith)
+  left_by (Wait address) line tape h = h ∙ ap (with_units (memory_after start tape)) (omega arith)
+  left_by action line tape h = ap (λ s. spending after s action) h ∙ ap (with_units (after (memory_after start tape) action)) (omega arith)
+
+  pub left_behind : (tape : Tape) → state_after (spending after) (with_units start n) (plain tape) ≡ with_units (memory_after start tape) (n - entries tape)
+  left_behind [] = ap (with_units start) (omega arith)
+  left_behind (i ∷ tape) = left_by i.action i.line tape (left_behind tape)
+
+-- units change no memory
+only_by : (start : Memory) (n : ℕ) (action : Action) (tape : Tape) → (state_after (spending after) (with_units start n) tape).state ≡ memory_after start tape
+    → (spending after (state_after (spending after) (with_units start n) tape) action).state ≡ after (memory_after start tape) action
+only_by start n (Enter size) tape h = ap (λ m. after m (Enter size)) h
+only_by start n Turn tape h = h
+only_by start n action tape h = ap (λ m. after m action) h
+
+state_only : (start : Memory) (n : ℕ) (tape : Tape) → (state_after (spending after) (with_units start n) tape).state ≡ memory_after start tape
+state_only start n [] = refl
+state_only start n (i ∷ tape) = only_by start n i.action tape (state_only start n tape)
+
+pub same_memory : (start : Memory) (tape : Tape) → memory_after start (plain tape) ≡ memory_after start tape
+same_memory start tape = sym (state_only start 0 (plain tape)) ∙ ap (λ (s : Metered Memory). s.state) (left_behind start 0 tape)

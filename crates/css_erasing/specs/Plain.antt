@@ -1,0 +1,24 @@
+-- A tape without what it says of tasks.
+use Rattle.std.specs.Prelude.{ℕ, ◌+◌, Bool, true, false, [], ◌∷◌, if◌then◌else◌}
+use Rattle.css_semantics.specs.Dialogue.{Action, Calls, Returns, Start, Finish, Barrier, Wait, Tape}
+use Rattle.css_semantics.specs.Tasks.{unit_of}
+
+-- an action that a program without directives never asks: a task's call and its return, and what begins, ends or waits for tasks
+abbrev pub is_of_tasks : Action → Bool
+is_of_tasks (Calls call) = true
+is_of_tasks Returns = true
+is_of_tasks Start = true
+is_of_tasks Finish = true
+is_of_tasks Barrier = true
+is_of_tasks (Wait address) = true
+is_of_tasks _ = false
+
+-- the tape without such items
+abbrev pub plain : Tape → Tape
+plain [] = []
+plain (i ∷ tape) = if is_of_tasks i.action then plain tape else i ∷ plain tape
+
+-- how many entries of functions and of loops' bodies stand on a tape
+abbrev pub entries : Tape → ℕ
+entries [] = 0
+entries (i ∷ tape) = entries tape + unit_of i.action

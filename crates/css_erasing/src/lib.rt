@@ -1,0 +1,9 @@
+//! Laws between a program under the rules and the program without its directives.
+#![tactic(auto)]
+
+mod laws;
+
+pub use laws::{
+    erasing_keeps_the_dialogue, images_are_the_erased_programs, other_tokens_spell_the_unmarked,
+    points_are_the_erased_programs, unmarked_has_no_directives, verdict_is_the_erased_programs,
+};

@@ -1,0 +1,8 @@
+use Rattle.css_in_place.proofs.MainCalls.{calls_placed, main_clear}
+use Rattle.css_in_place.proofs.laws.main_calls_in_place.Goals as goal
+
+pub returns : goal.returns
+returns c = record {
+  clear = λ code plans sound limits in_range n. main_clear code limits in_range plans sound n;
+  placed = λ code plans sound limits in_range n. calls_placed code limits in_range plans sound n;
+}

@@ -1,0 +1,4 @@
+pub mod InPlace
+pub mod Records
+pub mod Main
+pub mod Waits

@@ -1,0 +1,9 @@
+pub mod Sinks
+pub mod Exec
+pub mod Turns
+pub mod Calls
+pub mod Parts
+pub mod Yards
+pub mod TaskCalls
+pub mod Arms
+pub mod Rows

@@ -1,0 +1,14 @@
+//! Main's side of a run: its output on the way to a sink, how its run ends, and its run over a yard.
+#![tactic(auto)]
+
+mod ends;
+mod main_run;
+mod pending;
+mod ran;
+mod tasks;
+#[cfg(test)]
+mod tests;
+
+pub use main_run::play;
+pub use pending::Pending;
+pub use ran::Ran;

@@ -1,0 +1,12 @@
+use Rattle.std.proofs.Common.{◌≡◌, Some, None, refl, sym, ap, ◌∙◌}
+use Rattle.css_tree.specs.Syntax as spec
+use Rattle.css_tree.specs.Shapes.{expression, type_name}
+use Rattle.css_pexpr.specs.Shapes.{node, two}
+use Rattle.css_pexpr.proofs.Families.{no_node_two, some_node_two}
+use Rattle.css_pexpr.proofs.build.assigned.Goals as goal
+
+pub returns-in_default : goal.returns-in_default
+returns-in_default c = no_node_two c.args.most c.in_ok-inner.field-0 two (λ a b. spec.Assign c.args.line a c.args.operator b) (node c.args.place) (node c.args.value) (λ x y. refl) c.in_ok-inner.ensures c.in_default.is
+
+pub returns : goal.returns
+returns c = some_node_two c.args.most c.in_ok-inner.field-0 two (λ a b. spec.Assign c.args.line a c.args.operator b) (node c.args.place) (node c.args.value) c.in-Some.inner (λ x y. refl) c.in_ok-inner.ensures c.in-Some.is

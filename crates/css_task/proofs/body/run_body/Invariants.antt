@@ -1,0 +1,14 @@
+use Rattle.css_semantics.specs.Units.{with_units}
+use Rattle.css_semantics.specs.TaskSpaces.{place_of}
+use Rattle.css_vm.specs.Code.{code_of}
+use Rattle.css_vm.specs.Soundness.{Fits}
+use Rattle.css_vm.specs.Events.{IsStacked}
+use Rattle.css_task.specs.Arrivals.{GoesOn}
+use Rattle.css_task.proofs.body.run_body.Given as goal
+
+abbrev pub invariant-loop : goal.invariant-loop
+invariant-loop l = record {
+  fits : Fits (code_of l.code) l.machine;
+  stacked : IsStacked (code_of l.code) (place_of l.space) l.machine;
+  goes_on : GoesOn (code_of l.code) l.fn.machine (with_units l.fn.space l.fn.units) l.machine (with_units l.space l.units);
+}

@@ -1,0 +1,11 @@
+pub mod Brackets
+pub mod Declarations
+pub mod Expressions
+pub mod Heights
+pub mod Items
+pub mod Marks
+pub mod Parts
+pub mod Shapes
+pub mod Statements
+pub mod Syntax
+pub mod Words

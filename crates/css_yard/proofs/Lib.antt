@@ -1,0 +1,14 @@
+pub mod Lists
+pub mod OneRun
+pub mod Numbers
+pub mod OneEnd
+pub mod Later
+pub mod Lengths
+pub mod Kept
+pub mod Stops
+pub mod Submitted
+pub mod Parts
+pub mod Refusals
+pub mod Rows
+pub mod Before
+pub mod Generations

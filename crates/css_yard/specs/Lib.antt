@@ -1,0 +1,7 @@
+pub mod Values
+pub mod Yards
+pub mod Submits
+pub mod Kept
+pub mod Standings
+pub mod InOrders
+pub mod Rows

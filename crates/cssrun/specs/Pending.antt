@@ -1,7 +1,0 @@
--- Output that passes through a buffer.
-use Rattle.std.specs.Prelude.{◌≡◌, ℕ, List, ◌++◌}
-use Rattle.cssrun.specs.Ends.{Change, Got}
-
--- the sink got a front of these bytes, and the rest is pending
-abbrev pub Passes : Change → List ℕ → List ℕ → Type 0
-Passes c bytes pending = (front : List ℕ) × (bytes ≡ front ++ pending) × Got c front
