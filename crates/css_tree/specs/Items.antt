@@ -8,7 +8,7 @@ use Rattle.std.specs.Prelude.{◌≡◌, ℕ, List, [], ◌∷◌, codes, Option
 use Rattle.css_base.specs.Tokens.{Lexeme}
 use Rattle.css_tree.specs.declared.scope.Scope.TheVariants as scopes
 use Rattle.css_tree.specs.Syntax.{Mark, Parameter, Parameters, Empty, VoidAlone, Listed, Body, Function, Item, Define, Declare, Tree}
-use Rattle.css_tree.specs.Parts.{These, mark, word, Are, first_line}
+use Rattle.css_tree.specs.Parts.{These, mark, word, Are, first_line, last_line}
 use Rattle.css_tree.specs.Words.{IsName, SpellsSpecifiers, SpellsStars}
 use Rattle.css_tree.specs.Declarations.{SpellsBetweenCommas, SpellsDimensions, SpellsDeclaration}
 use Rattle.css_tree.specs.Statements.{SpellsMark, SpellsBlock}
@@ -50,7 +50,7 @@ abbrev pub SpellsBody : List Lexeme → Option Body → Type 0
 SpellsBody ts None = Are ts (mark (codes ";") ∷ [])
 SpellsBody ts (Some body) = SpellsBlock ts body.line body.entries
 
--- A function's line is that of its first word, also behind a directive.
+-- A function's line is that of its first word, also behind a directive, and its end is the line of its last token.
 pub record SpellsFunction (ts : List Lexeme) (f : Function) : Type 0 where
   pub directive : List Lexeme
   pub rest : List Lexeme
@@ -61,6 +61,7 @@ pub record SpellsFunction (ts : List Lexeme) (f : Function) : Type 0 where
   pub begins : Are ts (These directive ∷ These rest ∷ [])
   pub parts : Are rest (These specifiers ∷ These stars ∷ word f.name ∷ mark (codes "(") ∷ These parameters ∷ mark (codes ")") ∷ These body ∷ [])
   pub line_is : first_line rest ≡ f.line
+  pub end_is : last_line ts ≡ f.end
   pub spells_directive : SpellsOptionalMark directive f.directive
   pub spells_specifiers : SpellsSpecifiers scopes.File specifiers f.specifiers
   pub spells_stars : SpellsStars stars f.stars

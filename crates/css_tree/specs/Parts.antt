@@ -16,6 +16,12 @@ abbrev pub first_line : List Lexeme → ℕ
 first_line [] = 0
 first_line (t ∷ ts) = line_of t
 
+-- the line of the last of some tokens
+abbrev pub last_line : List Lexeme → ℕ
+last_line [] = 0
+last_line (t ∷ []) = line_of t
+last_line (t ∷ u ∷ ts) = last_line (u ∷ ts)
+
 -- a part of some tokens: one token of a kind, or these tokens
 pub data Part : Type 0 where
   One : (kind : Kind) → Part

@@ -158,9 +158,10 @@ abbrev pub body : blocks.Block → syntax.Body
 body b = record { line = (blocks.out-Block b).line; entries = listed_entries (blocks.out-Block b).entries.items }
 
 abbrev pub item : Item → syntax.Item
-item (items.Function directive line specifiers all name params block) = syntax.Define (record {
+item (items.Function directive line end specifiers all name params block) = syntax.Define (record {
   directive = option_map mark directive;
   line = line;
+  end = end;
   specifiers = specifiers.items;
   stars = stars all.items;
   name = name;

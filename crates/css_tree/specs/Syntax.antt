@@ -127,9 +127,11 @@ pub record Body : Type 0 where
   pub line : ℕ
   pub entries : Entries
 
+-- a function, with the lines of its first word and of its last token
 pub record Function : Type 0 where
   pub directive : Option Mark
   pub line : ℕ
+  pub end : ℕ
   pub specifiers : List Specifier
   pub stars : Stars
   pub name : List ℕ

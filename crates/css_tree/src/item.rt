@@ -16,10 +16,12 @@ pub struct Tree {
 /// A function, or a declaration of objects.
 #[derive(Drop, Debug)]
 pub enum Item {
-    /// A definition or, without a body, a prototype. The line is that of its first word, also behind a directive.
+    /// A definition or, without a body, a prototype. The line is that of its first word, also behind a directive; the end is the
+    /// line of its last token, which is a definition's closing brace.
     Function {
         directive: Option<Mark>,
         line: Line,
+        end: Line,
         specifiers: Vec<Specifier>,
         stars: Vec<Star>,
         name: Bytes,

@@ -17,6 +17,7 @@ pub(crate) fn unmarked_item(alloc: Global, each: &Item) -> Result<Item, NoMemory
     match each {
         Item::Function {
             line,
+            end,
             specifiers,
             stars,
             name,
@@ -26,6 +27,7 @@ pub(crate) fn unmarked_item(alloc: Global, each: &Item) -> Result<Item, NoMemory
         } => Ok(Item::Function {
             directive: None,
             line: *line,
+            end: *end,
             specifiers: Vec::from_slice(alloc, specifiers.as_slice())?,
             stars: copied_stars(alloc, stars.as_slice())?,
             name: name.share()?,

@@ -61,6 +61,7 @@ pub(super) fn deep(alloc: Global, marked: bool) -> Result<Tree, Fail> {
         entries.push(Entry::Statement(inner))?;
         inner = Statement::While {
             line: Line::new(2),
+        end: Line::new(9),
             condition: number(1),
             body: Box::new(alloc, Statement::Block(block(alloc, marked, entries)?))?,
         };
