@@ -1,0 +1,6 @@
+//! Laws between tokens and the tokens that aren't directives: they spell the same tree, but for its marks.
+#![tactic(auto)]
+
+mod laws;
+
+pub use laws::{erased_texts_are_accepted, no_parted_strings, others_spell_the_unmarked};
