@@ -1,10 +1,5 @@
 pub mod Tree
-pub mod Spelling
-pub mod Lexing
-pub mod Grammar
-pub mod Refusal
-pub mod Operators
-pub mod Forms
-pub mod Fronts
-pub mod Readings
+pub mod Names
+pub mod Trees
+pub mod Texts
 pub mod Numbers

@@ -1,5 +1,5 @@
 -- Programs as plain data.
-use Rattle.std.specs.Prelude.{ℕ, ◌+◌, max, List, [], ◌∷◌, map, fold, Bool, true, false}
+use Rattle.std.specs.Prelude.{ℕ, List, [], ◌∷◌, map, Bool, true, false}
 use Rattle.css_num.specs.declared.operators.UnOp.{UnOp}
 use Rattle.css_num.specs.declared.operators.BinOp.{BinOp}
 use Rattle.css_small.specs.declared.tree.Expression as code
@@ -104,54 +104,8 @@ function f = record {
 abbrev pub program : whole.Program → Program
 program p = record { functions = map function p.functions.items; main = function p.main }
 
--- ---- the end of a statement
-
--- The statement ends in an `if` without `else`, to which an `else` behind it belongs (C99 6.8.4.1).
-abbrev pub takes_else : Statement → Bool
-takes_else (If line e s) = true
-takes_else (IfElse line e s other) = takes_else other
-takes_else (While line e s) = takes_else s
-takes_else s = false
+-- ---- directives
 
 abbrev pub is_directive : Statement → Bool
 is_directive (Mark line kind) = true
 is_directive s = false
-
--- ---- levels: one for each function, for its block, and for each statement, declaration and node of an expression on the way down
-
-abbrev pub height : Expression → ℕ
-height (Number value) = 1
-height (Variable k) = 1
-height (Element e) = 1 + height e
-height (Unary op e) = 1 + height e
-height (Binary op a b) = 1 + max (height a) (height b)
-height (And a b) = 1 + max (height a) (height b)
-height (Or a b) = 1 + max (height a) (height b)
-
-abbrev mutual
-  -- An assignment and a call are nodes of an expression in their statement, and so is what they are given: `&x` has two. A directive
-  -- has none.
-  pub height_of_statement : Statement → ℕ
-  height_of_statement (Declare line k) = 1
-  height_of_statement (Initialise line k e) = 1 + height e
-  height_of_statement (Empty line) = 1
-  height_of_statement (Assign line k e) = 2 + height e
-  height_of_statement (AssignElement line i e) = 2 + max (1 + height i) (height e)
-  height_of_statement (Call line f k) = 4
-  height_of_statement (Mark line kind) = 0
-  height_of_statement (Put line e) = 2 + height e
-  height_of_statement (Return line e) = 1 + height e
-  height_of_statement (Block line all) = 1 + height_of_statements all
-  height_of_statement (If line e s) = 1 + max (height e) (height_of_statement s)
-  height_of_statement (IfElse line e s other) = 1 + max (height e) (max (height_of_statement s) (height_of_statement other))
-  height_of_statement (While line e s) = 1 + max (height e) (height_of_statement s)
-
-  pub height_of_statements : Statements → ℕ
-  height_of_statements End = 0
-  height_of_statements (More s rest) = max (height_of_statement s) (height_of_statements rest)
-
-abbrev pub height_of_function : Function → ℕ
-height_of_function f = 2 + height_of_statements f.body
-
-abbrev pub height_of_program : Program → ℕ
-height_of_program p = fold (λ most f. max most (height_of_function f)) (height_of_function p.main) p.functions

@@ -1,41 +1,58 @@
 //! The front end's calls.
-ghost use Rattle.std.specs.Prelude.{◌≡◌, ◌≤◌, ℕ, List, length, IfOk, IfErr};
+ghost use Rattle.std.specs.Prelude.{◌≡◌, ℕ, List, IfOk, IfErr};
+ghost use Rattle.css_base.specs.declared.static_fault.StaticFault.{StaticFault as Fault};
 ghost use Rattle.css_small.specs.Tree.{Program, program};
-ghost use Rattle.css_small.specs.Grammar.{Spells, IsNotBuilt};
 ghost use Rattle.css_small.specs.Numbers.{HasNumbers};
-ghost use Rattle.css_small.specs.Refusal.{IfRefused, fault_of};
+ghost use Rattle.css_small.specs.Texts.{Spells, IsRefused, IfRefused, not_built};
 
-use crate::lexer::{lex, one_list_of_tokens};
-use crate::parser::{one_tree, parse_program};
+use crate::functions::program_of;
 use crate::tree;
-use crate::unspelled::Unspelled;
+use crate::tree_fault::TreeFault;
 use css_base::{FrontFault, Line, StaticFault, StaticName};
+use css_lex::{lex, one_lexing};
+use css_parse::{accepted_or_refused, one_refusal, one_tree, parse};
 use std::alloc::Global;
 
-/// The most bytes that a text has.
-const LONGEST_TEXT: usize = 4_194_304;
-
-/// The program that the text spells. `Static` is S0 NotBuilt with line 1, exactly where the text is longer than
-/// 4,194,304 bytes or spells no program.
+/// The program that the text spells.
+///
+/// # Errors
+///
+/// `TooLong`, `BadByte`, `BadToken`, `BadMacro` or `BadConstant` (S1 to S4, S12) where the text has no tokens, `Unsupported`,
+/// `TooDeep` or `Syntax` (S15, S6, S5) where these have no tree, and `NotBuilt` (S0) with line 1 where that isn't of the small
+/// language. `NoMemory` where there was no memory.
 pub fn read_program(alloc: Global, text: &[u8]) -> Result<tree::Program, FrontFault>
-    ensures ok { IfOk result (λ p. (length text.now ≤ 4194304) × Spells text.now (program p)) }
+    ensures ok { IfOk result (λ p. Spells text.now (program p)) }
     ensures refused { IfErr result (IfRefused text.now) }
 {
-    if text.len() > LONGEST_TEXT {
-        return Err(not_built());
-    }
-    // Where parse_program refuses the tokens, no other tokens of the text spell a program.
-    one_list_of_tokens();
     let tokens = lex(alloc, text)?;
-    Ok(parse_program(alloc, tokens.as_slice())?)
+    let tree = parse(alloc, &tokens)?;
+    match program_of(alloc, &tree) {
+        Ok(program) => Ok(program),
+        Err(TreeFault::NotSmall) => Err(not_built()),
+        Err(TreeFault::NoMemory) => Err(FrontFault::NoMemory),
+    }
 }
 
-/// A text spells at most one program.
-pub fn one_program()
-    ensures { (text : List ℕ) (p q : Program) → Spells text p → Spells text q → p ≡ q }
+/// S0 with line 1.
+fn not_built() -> FrontFault
+    ensures { result ≡ FrontFault.Static not_built }
 {
-    one_list_of_tokens();
+    FrontFault::Static(StaticFault {
+        name: StaticName::NotBuilt,
+        line: Line::new(1),
+    })
+}
+
+/// A text spells at most one program, is refused with at most one fault, and isn't both.
+pub fn one_reading()
+    ensures program { (text : List ℕ) (p q : Program) → Spells text p → Spells text q → p ≡ q }
+    ensures fault { (text : List ℕ) (f g : Fault) → IsRefused text f → IsRefused text g → f ≡ g }
+    ensures apart { (text : List ℕ) (p : Program) (f : Fault) → Spells text p → IsRefused text f → ⊥ }
+{
+    one_lexing();
     one_tree();
+    one_refusal();
+    accepted_or_refused();
 }
 
 /// The numbers of a program are in their ranges: each function has at most 1,000 variables, its constants have type int, and it
@@ -43,24 +60,3 @@ pub fn one_program()
 pub fn numbers_fit()
     ensures { (text : List ℕ) (p : Program) → Spells text p → HasNumbers p }
 {}
-
-impl From<Unspelled> for FrontFault {
-    ghost from_gives = { λ unspelled fault. fault ≡ fault_of unspelled };
-
-    fn from(unspelled: Unspelled) -> FrontFault {
-        match unspelled {
-            Unspelled::NotSpelled => not_built(),
-            Unspelled::NoMemory => FrontFault::NoMemory,
-        }
-    }
-}
-
-/// S0 NotBuilt with line 1.
-fn not_built() -> FrontFault
-    ensures { result ≡ fault_of Unspelled.NotSpelled }
-{
-    FrontFault::Static(StaticFault {
-        name: StaticName::NotBuilt,
-        line: Line::new(1),
-    })
-}

@@ -1,16 +1,18 @@
-//! The front end of the small language: from a text to the one tree that it spells.
+//! The small language: from a text to the one program that it spells.
 #![tactic(auto)]
 
+mod bodies;
+mod expressions;
 mod front;
-mod lexer;
-mod parser;
+mod functions;
+mod name_set;
+mod names;
+mod statements;
 mod tree;
-mod unspelled;
+mod tree_fault;
 
-pub use front::{numbers_fit, one_program, read_program};
-pub use parser::parse_program;
+pub use front::{numbers_fit, one_reading, read_program};
 pub use tree::{Directive, Expression, Function, Program, Statement};
-pub use unspelled::Unspelled;
 
 #[cfg(test)]
 mod tests;
