@@ -8,7 +8,3 @@ pub mod Programs
 pub mod Verdicts
 pub mod Points
 pub mod Unmarked
-pub mod Others
-pub mod Spelled
-pub mod SpelledPrograms
-pub mod Limits

@@ -1,4 +1,3 @@
 pub mod Unmarked
 pub mod Plain
 pub mod Erased
-pub mod Others

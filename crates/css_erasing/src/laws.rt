@@ -1,20 +1,21 @@
 //! Laws between a program under the rules and the program without its directives. Each is what the contract of an empty function says.
 ghost use Rattle.std.specs.Prelude.{◌≡◌, ◌≤◌, ◌++◌, ℕ, false, Some, List, All};
 ghost use Rattle.css_base.specs.declared.limits.Limits.{Limits};
-ghost use Rattle.css_base.specs.Tokens.{Lexeme};
+ghost use Rattle.css_lex.specs.Lines.{erased};
 ghost use Rattle.css_semantics.specs.Dialogue.{Tape, Stops, Tired, tape_of, output};
 ghost use Rattle.css_semantics.specs.Memory.{Memory, memory_after};
 ghost use Rattle.css_semantics.specs.Flat.{no_frames, flat};
 ghost use Rattle.css_semantics.specs.Verdict.{Verdict, verdict, judged_in};
 ghost use Rattle.css_small.specs.Tree.{Program};
 ghost use Rattle.css_small.specs.Numbers.{HasNumbers};
-ghost use Rattle.css_small.specs.Grammar.{IsProgram};
+ghost use Rattle.css_small.specs.Texts.{Spells};
 ghost use Rattle.css_small_code.specs.Meaning.{source};
 ghost use Rattle.css_small_code.specs.Marks.{HasNoDirectives};
 ghost use Rattle.css_erasing.specs.Unmarked.{unmarked};
-ghost use Rattle.css_erasing.specs.Others.{AreOthers};
 ghost use Rattle.css_erasing.specs.Plain.{plain, entries};
 ghost use Rattle.css_erasing.specs.Erased.{IsPassed, IsErased, Answers, IsSeen};
+
+use css_unmarking::erased_texts_are_accepted;
 
 /// A program's dialogue under the rules is, up to the first fault or rule, that of the program without its directives in a flat memory
 /// with units enough, but for what it says of tasks.
@@ -49,7 +50,9 @@ pub fn unmarked_has_no_directives()
     ensures numbers_fit { (p : Program) → HasNumbers p → HasNumbers (unmarked p) }
 {}
 
-/// Where tokens spell a program, those among them that aren't directives spell the program without its directives.
-pub fn other_tokens_spell_the_unmarked()
-    ensures { (tokens others : List Lexeme) (p : Program) → IsProgram tokens p → AreOthers tokens others → IsProgram others (unmarked p) }
-{}
+/// Where a text spells a program, the text without its directives spells the program without them.
+pub fn erased_texts_spell_the_unmarked()
+    ensures { (text : List ℕ) (p : Program) → Spells text p → Spells (erased text) (unmarked p) }
+{
+    erased_texts_are_accepted();
+}

@@ -4,6 +4,6 @@
 mod laws;
 
 pub use laws::{
-    erasing_keeps_the_dialogue, images_are_the_erased_programs, other_tokens_spell_the_unmarked,
+    erased_texts_spell_the_unmarked, erasing_keeps_the_dialogue, images_are_the_erased_programs,
     points_are_the_erased_programs, unmarked_has_no_directives, verdict_is_the_erased_programs,
 };
