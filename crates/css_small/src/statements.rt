@@ -1,5 +1,5 @@
 //! Statements and directives of the small language.
-ghost use Rattle.std.specs.Prelude.{◌≡◌, ℕ, ◌∷◌, [], Some, None, IfOk, IfErr, IfSome, IsErrOf};
+ghost use Rattle.std.specs.Prelude.{◌≡◌, ◌++◌, ◌∷◌, [], Some, None, IfOk, IfErr, OnOk, IsErrOf};
 ghost use Rattle.css_base.specs.Tokens.{lexemes};
 ghost use Rattle.css_tree.specs.Shapes as shapes;
 ghost use Rattle.css_small.specs.Tree.{statement, listed};
@@ -28,7 +28,9 @@ pub(crate) fn statement_of(
             line: block.line,
             statements: statements_of(alloc, names, block.entries.as_slice())?,
         }),
-        css_tree::Statement::Expression { line, value: None } => Ok(Statement::Empty { line: *line }),
+        css_tree::Statement::Expression { line, value: None } => Ok(Statement::Empty {
+            line: *line,
+        }),
         css_tree::Statement::Expression {
             line,
             value: Some(value),
@@ -150,7 +152,9 @@ fn effect_of(
             ..
         } => assignment_of(alloc, names, line, place, value),
         Expression::Call {
-            name, arguments, ..
+            name,
+            arguments,
+            ..
         } => match arguments.as_slice() {
             [argument] => call_of(alloc, names, line, name.as_slice(), argument),
             _ => Err(TreeFault::NotSmall),
@@ -249,10 +253,12 @@ pub(crate) fn mark_of(names: &Names, mark: &Mark) -> Result<Statement, TreeFault
         return Err(TreeFault::NotSmall);
     }
     match mark.words.as_slice() {
-        [Token {
-            kind: TokenKind::Word(word),
-            ..
-        }] => match directive_named(word.as_slice()) {
+        [
+            Token {
+                kind: TokenKind::Word(word),
+                ..
+            },
+        ] => match directive_named(word.as_slice()) {
             Some(kind) => Ok(Statement::Directive {
                 line: mark.line,
                 kind,
