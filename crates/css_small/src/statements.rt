@@ -3,7 +3,7 @@ ghost use Rattle.std.specs.Prelude.{◌≡◌, ◌++◌, ◌∷◌, [], Some, No
 ghost use Rattle.css_base.specs.Tokens.{lexemes};
 ghost use Rattle.css_tree.specs.Shapes as shapes;
 ghost use Rattle.css_small.specs.Tree.{statement, listed};
-ghost use Rattle.css_small.specs.Trees.{statement_of, statements_of, entry_of, effect_of, assignment_of, call_of, address_of, mark_of, directive_named};
+ghost use Rattle.css_small.specs.Trees.{statement_of, statements_of, entry_of, effect_of, assignment_of, call_of, address_of, mark_of, kinds_of, directive_of, directive_named};
 
 use crate::expressions::{expression_of, names_parameter};
 use crate::names::Names;
@@ -155,10 +155,12 @@ fn effect_of(
             name,
             arguments,
             ..
-        } => match arguments.as_slice() {
-            [argument] => call_of(alloc, names, line, name.as_slice(), argument),
-            _ => Err(TreeFault::NotSmall),
-        },
+        } => {
+            if arguments.len() != 1 {
+                return Err(TreeFault::NotSmall);
+            }
+            call_of(alloc, names, line, name.as_slice(), &arguments[0])
+        }
         _ => Err(TreeFault::NotSmall),
     }
 }
@@ -249,23 +251,25 @@ pub(crate) fn mark_of(names: &Names, mark: &Mark) -> Result<Statement, TreeFault
     ensures ok { IfOk result (λ s. mark_of names.now (shapes.mark mark.now) ≡ Some (statement s)) }
     ensures not_small { IsErrOf result TreeFault.NotSmall → mark_of names.now (shapes.mark mark.now) ≡ None }
 {
-    if !names.is_in_main() {
-        return Err(TreeFault::NotSmall);
-    }
-    match mark.words.as_slice() {
-        [
-            Token {
-                kind: TokenKind::Word(word),
-                ..
-            },
-        ] => match directive_named(word.as_slice()) {
-            Some(kind) => Ok(Statement::Directive {
-                line: mark.line,
-                kind,
-            }),
-            None => Err(TreeFault::NotSmall),
-        },
+    match directive_of(mark.words.as_slice()) {
+        Some(kind) if names.is_in_main() => Ok(Statement::Directive {
+            line: mark.line,
+            kind,
+        }),
         _ => Err(TreeFault::NotSmall),
+    }
+}
+
+/// The directive of main with these words.
+fn directive_of(words: &[Token]) -> Option<Directive>
+    ensures { result ≡ directive_of (kinds_of (shapes.in_row (lexemes words.now))) }
+{
+    let [only] = words else {
+        return None;
+    };
+    match &only.kind {
+        TokenKind::Word(word) => directive_named(word.as_slice()),
+        _ => None,
     }
 }
 
