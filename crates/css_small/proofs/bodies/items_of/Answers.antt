@@ -1,0 +1,2 @@
+use Rattle.std.proofs.Common.{◌≡◌, sym, ◌∙◌}
+use Rattle.css_small.proofs.bodies.items_of.Goals as goal
