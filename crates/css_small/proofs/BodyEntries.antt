@@ -1,13 +1,13 @@
 -- What stands in a function's body, put together one by one.
-use Rattle.std.proofs.Common.{◌≡◌, ℕ, ◌+◌, ◌<◌, ◌≤◌, List, [], ◌∷◌, ◌++◌, length, drop, get_or, Option, Some, None, option_map, sym, ap, ◌∙◌}
+use Rattle.std.proofs.Common.{◌≡◌, ℕ, ◌+◌, ◌<◌, ◌≤◌, List, [], ◌∷◌, ◌++◌, length, drop, get_or, Option, Some, None, option_map, refl, sym, ap, ◌∙◌}
 use Rattle.std.proofs.lemmas.List.{drop_more, at_drop_all}
 use Rattle.css_tree.specs.declared.statement.Entry.{Entry}
-use Rattle.css_tree.specs.Syntax.{MoreEntries}
+use Rattle.css_tree.specs.Syntax as syntax
 use Rattle.css_tree.specs.Shapes.{entry, listed_entries}
 use Rattle.css_small.specs.declared.tree.Statement as coded
 use Rattle.css_small.specs.Tree.{Statements, More, statement, listed}
 use Rattle.css_small.specs.Names.{Names}
-use Rattle.css_small.specs.Trees.{both, item_of, items_of, behind, behind_all}
+use Rattle.css_small.specs.Trees.{both, declared, item_of, items_of, with_declared, behind, behind_all}
 use Rattle.css_small.proofs.Rows.{before, before-all, before-more}
 
 -- what is done, before what is left
@@ -51,3 +51,16 @@ names_next all i e names below is =
 
 pub names_done : (all : List Entry) (i : ℕ) (names : Names) → length all ≤ i → names_from all i names ≡ names
 names_done all i names past = at_drop_all (λ l. behind_all names (listed_entries l)) all i past
+
+parameters-with_declared : (names : Names) (x : Option syntax.Declarator) → (with_declared names x).parameters ≡ names.parameters
+parameters-with_declared names None = refl
+parameters-with_declared names (Some x) = refl
+
+parameters-behind : (names : Names) (e : syntax.Entry) → (behind names e).parameters ≡ names.parameters
+parameters-behind names (syntax.Declared d) = parameters-with_declared names (declared d)
+parameters-behind names (syntax.Stated s) = refl
+parameters-behind names (syntax.Marked m) = refl
+
+pub parameters-behind_all : (names : Names) (entries : syntax.Entries) → (behind_all names entries).parameters ≡ names.parameters
+parameters-behind_all names syntax.NoEntries = refl
+parameters-behind_all names (syntax.MoreEntries first others) = parameters-behind_all (behind names first) others ∙ parameters-behind names first

@@ -56,7 +56,7 @@ fn check_most(
     Ok(())
 }
 
-/// 200 open brackets, 500 levels, 1,000,000 tokens and 4,194,304 bytes are read in main, and one more is not.
+/// 200 open brackets and 500 levels are read in main, and one more is not.
 #[test]
 fn limits_of_main(rt: HostRuntime) -> Result<(), Fail> {
     let alloc = rt.alloc();
@@ -80,14 +80,26 @@ fn limits_of_main(rt: HostRuntime) -> Result<(), Fail> {
         (["", "if(1);else ", ";", "", ""], 497, "Syntax 1"),
         // Main, its block, the loop, 496 operators and the constant.
         (["while(", "~", "1", "", ");"], 496, "Syntax 1"),
-        // Main has seven tokens of its own.
-        (["", ";", "", "", ""], 999_993, "BadMacro 1"),
-        // Main has sixteen bytes of its own.
-        (["", " ", "", "", ""], 4_194_288, "TooLong 1"),
     ] {
         check_most(&rt, alloc, IN_MAIN, parts, (most, broken))?;
     }
     Ok(())
+}
+
+/// 1,000,000 tokens are read, and one more is not.
+#[test]
+fn most_tokens(rt: HostRuntime) -> Result<(), Fail> {
+    // Main has seven tokens of its own.
+    let parts = ["", ";", "", "", ""];
+    check_most(&rt, rt.alloc(), IN_MAIN, parts, (999_993, "BadMacro 1"))
+}
+
+/// 4,194,304 bytes are read, and one more is not.
+#[test]
+fn longest_text(rt: HostRuntime) -> Result<(), Fail> {
+    // Main has sixteen bytes of its own.
+    let parts = ["", " ", "", "", ""];
+    check_most(&rt, rt.alloc(), IN_MAIN, parts, (4_194_288, "TooLong 1"))
 }
 
 /// 200 open brackets and 500 levels are read in a function too, and one more is not.
