@@ -138,7 +138,7 @@ abbrev mutual
   statement_of names (syntax.Evaluate line None) = Some (Empty line)
   statement_of names (syntax.Evaluate line (Some e)) = effect_of names line e
   statement_of names (syntax.If line e s) = both (If line) (expression_of names e) (statement_of names s)
-  statement_of names (syntax.IfElse line e s other) = both (λ f t. f t) (both (IfElse line) (expression_of names e) (statement_of names s)) (statement_of names other)
+  statement_of names (syntax.IfElse line e s other) = both (λ (f : Statement → Statement) (t : Statement). f t) (both (λ e s t. IfElse line e s t) (expression_of names e) (statement_of names s)) (statement_of names other)
   statement_of names (syntax.While line e s) = both (While line) (expression_of names e) (statement_of names s)
   statement_of names (syntax.Return line (Some e)) = where_true (is_in_main names) (option_map (Return line) (expression_of names e))
   statement_of names s = None

@@ -39,7 +39,9 @@ pub(crate) fn expression_of(
             Ok(Expression::Element(boxed(alloc, index)?))
         }
         css_tree::Expression::Unary {
-            operator, operand, ..
+            operator,
+            operand,
+            ..
         } => {
             let Some(operator) = unary_of(*operator) else {
                 return Err(TreeFault::NotSmall);
