@@ -1,7 +1,10 @@
+pub mod BodyEntries
 pub mod Calls
 pub mod Entries
 pub mod Exits
 pub mod Keys
 pub mod Lists
+pub mod ProgramItems
 pub mod Rows
+pub mod TaskWords
 pub mod Words
