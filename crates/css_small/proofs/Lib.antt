@@ -8,3 +8,5 @@ pub mod ProgramItems
 pub mod Rows
 pub mod TaskWords
 pub mod Words
+pub mod Parts
+pub mod Numbers
