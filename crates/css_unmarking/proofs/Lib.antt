@@ -1,0 +1,10 @@
+pub mod Others
+pub mod OthersWords
+pub mod OthersExpressions
+pub mod OthersDeclarations
+pub mod OthersStatements
+pub mod OthersItems
+pub mod OthersBrackets
+pub mod OthersKeywords
+pub mod OthersAccepted
+pub mod Heights
