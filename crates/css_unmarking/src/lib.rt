@@ -3,4 +3,4 @@
 
 mod laws;
 
-pub use laws::{erased_texts_are_accepted, no_parted_strings, others_spell_the_unmarked};
+pub use laws::no_parted_strings;

@@ -1,0 +1,3 @@
+pub mod StringsApart
+pub mod StringsExpressions
+pub mod StringsPrograms
