@@ -31,9 +31,9 @@ Within false After = ⊥
 
 -- ---- two strings with directives between them
 
-met_stays : (last : Bool) (ts : List Lexeme) → Within last (run Met ts) → ⊥
-met_stays last [] w = w
-met_stays last (t ∷ ts) w = met_stays last ts w
+met_stays : (ts : List Lexeme) → Within false (run Met ts) → ⊥
+met_stays [] w = w
+met_stays (t ∷ ts) w = met_stays ts w
 
 text_behind : (t : Lexeme) → IsTrue (is_string t) → (behind Clear (kind_at t) ≡ After) × (behind After (kind_at t) ≡ Met)
 text_behind (At (Text bytes) line place end) h = (refl, refl)
@@ -43,27 +43,27 @@ directive_behind : (t : Lexeme) → IsTrue (is_directive t) → behind After (ki
 directive_behind (At (Directive words) line place end) h = refl
 directive_behind (At kind line place end) h = absurd cc
 
-second_meets : (last : Bool) (between : List Lexeme) (second : Lexeme) (back : List Lexeme) → All (λ t. IsTrue (is_directive t)) between → IsTrue (is_string second)
-    → Within last (run After (between ++ second ∷ back)) → ⊥
-second_meets last [] second back directives string w = met_stays last back (subst (λ s. Within last (run s back)) (text_behind second string).1 w)
-second_meets last (t ∷ between) second back directives string w =
-    second_meets last between second back (All-tail (λ t. IsTrue (is_directive t)) t between directives) string
-    (subst (λ s. Within last (run s (between ++ second ∷ back))) (directive_behind t (All-head (λ t. IsTrue (is_directive t)) t between directives)) w)
+second_meets : (between : List Lexeme) (second : Lexeme) (back : List Lexeme) → All (λ t. IsTrue (is_directive t)) between → IsTrue (is_string second)
+    → Within false (run After (between ++ second ∷ back)) → ⊥
+second_meets [] second back directives string w = met_stays back (subst (λ s. Within false (run s back)) (text_behind second string).1 w)
+second_meets (t ∷ between) second back directives string w =
+    second_meets between second back (All-tail (λ t. IsTrue (is_directive t)) t between directives) string
+    (subst (λ s. Within false (run s (between ++ second ∷ back))) (directive_behind t (All-head (λ t. IsTrue (is_directive t)) t between directives)) w)
 
-both_meet : (last : Bool) (s : State) (front : List Lexeme) (first : Lexeme) (between : List Lexeme) (second : Lexeme) (back : List Lexeme)
+both_meet : (s : State) (front : List Lexeme) (first : Lexeme) (between : List Lexeme) (second : Lexeme) (back : List Lexeme)
     → IsTrue (is_string first) → All (λ t. IsTrue (is_directive t)) between → IsTrue (is_string second)
-    → Within last (run s (front ++ first ∷ (between ++ second ∷ back))) → ⊥
-both_meet last Clear [] first between second back string directives other w =
-    second_meets last between second back directives other (subst (λ s. Within last (run s (between ++ second ∷ back))) (text_behind first string).0 w)
-both_meet last After [] first between second back string directives other w =
-    met_stays last (between ++ second ∷ back) (subst (λ s. Within last (run s (between ++ second ∷ back))) (text_behind first string).1 w)
-both_meet last Met [] first between second back string directives other w = met_stays last (between ++ second ∷ back) w
-both_meet last s (t ∷ front) first between second back string directives other w =
-    both_meet last (behind s (kind_at t)) front first between second back string directives other w
+    → Within false (run s (front ++ first ∷ (between ++ second ∷ back))) → ⊥
+both_meet Clear [] first between second back string directives other w =
+    second_meets between second back directives other (subst (λ s. Within false (run s (between ++ second ∷ back))) (text_behind first string).0 w)
+both_meet After [] first between second back string directives other w =
+    met_stays (between ++ second ∷ back) (subst (λ s. Within false (run s (between ++ second ∷ back))) (text_behind first string).1 w)
+both_meet Met [] first between second back string directives other w = met_stays (between ++ second ∷ back) w
+both_meet s (t ∷ front) first between second back string directives other w =
+    both_meet (behind s (kind_at t)) front first between second back string directives other w
 
-pub none_parted : (last : Bool) (ts : List Lexeme) → Within last (run Clear ts) → HasPartedStrings ts → ⊥
-none_parted last ts w h =
-    both_meet last Clear h.front h.first h.between h.second h.back h.strings.0 h.directives h.strings.1 (subst (λ l. Within last (run Clear l)) h.parts w)
+pub none_parted : (ts : List Lexeme) → Within false (run Clear ts) → HasPartedStrings ts → ⊥
+none_parted ts w h =
+    both_meet Clear h.front h.first h.between h.second h.back h.strings.0 h.directives h.strings.1 (subst (λ l. Within false (run Clear l)) h.parts w)
 
 -- ---- tokens part by part
 

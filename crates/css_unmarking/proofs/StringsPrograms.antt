@@ -146,4 +146,4 @@ program ts [] s = nothing s
 program ts (i ∷ is) (us, vs, are, s, more) = led ts (Tokens (item us i s) (Tokens (program vs is more) Done)) are
 
 pub program_apart : (ts : List Lexeme) (is : Tree) → SpellsProgram ts is → HasPartedStrings ts → ⊥
-program_apart ts is s = none_parted false ts ((program ts is s).reads Clear tt)
+program_apart ts is s = none_parted ts ((program ts is s).reads Clear tt)
