@@ -8,3 +8,6 @@ pub mod OthersBrackets
 pub mod OthersKeywords
 pub mod OthersAccepted
 pub mod Heights
+pub mod StringsApart
+pub mod StringsExpressions
+pub mod StringsPrograms
