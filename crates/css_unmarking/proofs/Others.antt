@@ -34,17 +34,13 @@ kinds_by : (ts : List Lexeme) → map (λ (x : Kind × ℕ). x.0) (kinds_and_lin
 kinds_by [] = refl
 kinds_by (At kind line place end ∷ ts) = ap (λ l. kind ∷ l) (kinds_by ts)
 
--- one token before others
+-- tokens that are the same as two rows, in two rows
 pub record Split (ts vs us : List Lexeme) : Type 0 where
   pub front : List Lexeme
   pub back : List Lexeme
   pub are : us ≡ front ++ back
   pub first : Same ts front
   pub second : Same vs back
-
-rest_of_list : {X : Type 0} → List X → List X
-rest_of_list [] = []
-rest_of_list (x ∷ xs) = xs
 
 pub none_same : (us : List Lexeme) → Same [] us → us ≡ []
 none_same [] h = refl
@@ -60,24 +56,24 @@ same_split (t ∷ ts) vs (u ∷ us) h =
     let rest = same_split ts vs us cc in
     record { front = u ∷ rest.front; back = rest.back; are = ahead u us rest.front rest.back rest.are; first = cc; second = rest.second }
 
-pub same_kind : (t u : Lexeme) → kind_and_line u ≡ kind_and_line t → kind_at u ≡ kind_at t
+same_kind : (t u : Lexeme) → kind_and_line u ≡ kind_and_line t → kind_at u ≡ kind_at t
 same_kind (At k l p e) (At k' l' p' e') h = ap (λ (x : Kind × ℕ). x.0) h
 
--- a part of a token's kind, and what is behind
-pub record Led (t : Lexeme) (ts us : List Lexeme) : Type 0 where
-  pub token : Lexeme
-  pub back : List Lexeme
-  pub are : us ≡ token ∷ back
-  pub kind : kind_at token ≡ kind_at t
-  pub second : Same ts back
+-- tokens that are the same as a token and others
+record Led (t : Lexeme) (ts us : List Lexeme) : Type 0 where
+  token : Lexeme
+  back : List Lexeme
+  are : us ≡ token ∷ back
+  kind : kind_at token ≡ kind_at t
+  second : Same ts back
 
-pub same_led : (t : Lexeme) (ts us : List Lexeme) → Same (t ∷ ts) us → Led t ts us
+same_led : (t : Lexeme) (ts us : List Lexeme) → Same (t ∷ ts) us → Led t ts us
 same_led t ts [] h = absurd cc
 same_led t ts (u ∷ us) h = record { token = u; back = us; are = refl; kind = same_kind t u cc; second = cc }
 
 -- ---- productions
 
--- Each part is moved.
+-- What holds of the parts, with other tokens of the same kinds and lines in them.
 abbrev pub Moved : List Part → (List Part → Type 0) → Type 0
 Moved [] P = P []
 Moved (One kind ∷ parts) P = Moved parts (λ others. P (One kind ∷ others))
@@ -96,7 +92,7 @@ these_are us vs (part ∷ parts) a = (vs, refl, a)
 one_are : (t : Lexeme) (kind : Kind) (ts : List Lexeme) (parts : List Part) → kind_at t ≡ kind → Are ts parts → Are (t ∷ ts) (One kind ∷ parts)
 one_are t kind ts parts is a = (t, ts, refl, is, a)
 
-pub moved : (parts : List Part) (ts us : List Lexeme) → Are ts parts → Same ts us → Moved parts (Are us)
+moved : (parts : List Part) (ts us : List Lexeme) → Are ts parts → Same ts us → Moved parts (Are us)
 moved [] ts us a h = none_same us (subst (λ l. Same l us) a h)
 moved (One kind ∷ parts) ts us (t, rest, e, is, a) h =
     let led = same_led t rest us (subst (λ l. Same l us) e h) in
@@ -121,6 +117,7 @@ pub data Form : List Part → Type 0 where
   Named : {bytes : List ℕ} {parts : List Part} → Form parts → Form (word bytes ∷ parts)
   Token : {kind : Kind} {parts : List Part} → is_directive_kind kind ≡ false → Form parts → Form (One kind ∷ parts)
 
+-- Tokens of the same kinds and lines have parts of the same kinds and lines.
 pub same_parts : {parts : List Part} (ts us : List Lexeme) → Form parts → Are ts parts → Same ts us → Moved parts (Are us)
 same_parts {parts} ts us form a h = moved parts ts us a h
 
@@ -136,6 +133,7 @@ abbrev pub ArePlain : List Kind → Type 0
 ArePlain [] = Unit {0}
 ArePlain (kind ∷ kinds) = (is_directive_kind kind ≡ false) × ArePlain kinds
 
+-- None of the tokens is a directive.
 abbrev pub Plain : List Lexeme → Type 0
 Plain ts = ArePlain (kinds ts)
 
@@ -143,7 +141,7 @@ pub plain_both : (ks ls : List Kind) → ArePlain ks → ArePlain ls → ArePlai
 plain_both [] ls p q = q
 plain_both (k ∷ ks) ls (is, p) q = (is, plain_both ks ls p q)
 
--- The parts that are tokens are plain.
+-- No token in the parts is a directive.
 abbrev pub ThesePlain : List Part → Type 0
 ThesePlain [] = Unit {0}
 ThesePlain (One kind ∷ parts) = ThesePlain parts
@@ -163,19 +161,20 @@ plain_parts ts (Token plain form) (t, rest, e, is, a) p = one_plain t ts rest _ 
 
 -- ---- tokens without their directives
 
+-- Those have the kinds and lines of these but for the directives.
 abbrev pub AreOthers : (ts us : List Lexeme) → Type 0
 AreOthers ts us = Same (without_directives ts) us
 
-pub directive_is : (t : Lexeme) → is_directive t ≡ is_directive_kind (kind_at t)
+directive_is : (t : Lexeme) → is_directive t ≡ is_directive_kind (kind_at t)
 directive_is (At kind line place end) = refl
 
-pub kept : (t : Lexeme) (ts : List Lexeme) → is_directive_kind (kind_at t) ≡ false → without_directives (t ∷ ts) ≡ t ∷ without_directives ts
+kept : (t : Lexeme) (ts : List Lexeme) → is_directive_kind (kind_at t) ≡ false → without_directives (t ∷ ts) ≡ t ∷ without_directives ts
 kept t ts is = ap (λ b. if not b then t ∷ without_directives ts else without_directives ts) (directive_is t ∙ is)
 
 pub taken : (t : Lexeme) (ts : List Lexeme) → is_directive_kind (kind_at t) ≡ true → without_directives (t ∷ ts) ≡ without_directives ts
 taken t ts is = ap (λ b. if not b then t ∷ without_directives ts else without_directives ts) (directive_is t ∙ is)
 
-pub without-append : (ts us : List Lexeme) → without_directives (ts ++ us) ≡ without_directives ts ++ without_directives us
+without-append : (ts us : List Lexeme) → without_directives (ts ++ us) ≡ without_directives ts ++ without_directives us
 without-append ts us = filter-append (λ t. not (is_directive t)) ts us
 
 all_kept : (ts : List Lexeme) → Plain ts → without_directives ts ≡ ts
@@ -185,6 +184,7 @@ all_kept (t ∷ ts) (is, p) = kept t ts is ∙ ap (λ l. t ∷ l) (all_kept ts p
 pub others_same : (ts us : List Lexeme) → Plain ts → AreOthers ts us → Same ts us
 others_same ts us p h = h ∙ ap kinds_and_lines (all_kept ts p)
 
+-- the parts without their directives
 abbrev pub without : List Part → List Part
 without [] = []
 without (One kind ∷ parts) = One kind ∷ without parts
@@ -204,11 +204,13 @@ left ts (Sign {parts = parts} form) (t, rest, e, is, a) = one_left t ts rest _ (
 left ts (Named {parts = parts} form) (t, rest, e, is, a) = one_left t ts rest _ (without parts) e is refl (left rest form a)
 left ts (Token {parts = parts} plain form) (t, rest, e, is, a) = one_left t ts rest _ (without parts) e is plain (left rest form a)
 
+-- So have the tokens that aren't directives.
 pub others_parts : {parts : List Part} (ts us : List Lexeme) → Form parts → Are ts parts → AreOthers ts us → Moved (without parts) (Are us)
 others_parts {parts} ts us form a h = moved (without parts) (without_directives ts) us (left ts form a) h
 
 -- ---- first and last tokens
 
+-- The first token is no directive, if there is one.
 abbrev pub Starts : List Lexeme → Type 0
 Starts [] = Unit {0}
 Starts (t ∷ ts) = is_directive_kind (kind_at t) ≡ false
@@ -221,7 +223,7 @@ pub first_others : (ts us : List Lexeme) → Starts ts → AreOthers ts us → f
 first_others [] us s h = first_same [] us h
 first_others (t ∷ ts) us s h = first_same (without_directives (t ∷ ts)) us h ∙ ap first_line (kept t ts s)
 
--- The parts before the first token are plain.
+-- No token before the first part of one token is a directive.
 abbrev pub StartsWith : List Part → Type 0
 StartsWith [] = Unit {0}
 StartsWith (One kind ∷ parts) = Unit {0}
