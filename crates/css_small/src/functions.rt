@@ -3,7 +3,7 @@ ghost use Rattle.std.specs.Prelude.{◌≡◌, ℕ, List, [], ◌∷◌, ◌++�
 ghost use Rattle.css_base.specs.Tokens.{Word, Punctuator, kind_of, lexemes};
 ghost use Rattle.css_tree.specs.Syntax as syntax;
 ghost use Rattle.css_tree.specs.Shapes as shapes;
-ghost use Rattle.css_small.specs.Tree.{function, program};
+ghost use Rattle.css_small.specs.Tree.{Program as Whole, function, program};
 ghost use Rattle.css_small.specs.Trees as spec;
 ghost use Rattle.css_small.specs.Trees.{program_of, program_behind, function_behind, main_behind, is_void, is_void_alone, pointer_of, is_star, is_task_of, task_of, kinds_of};
 
@@ -37,7 +37,7 @@ fn functions_of(
     items: &[Item],
 ) -> Result<Vec<Function>, TreeFault>
     ensures ok { IfOk result (λ all. (last : syntax.Item) → program_behind names.old (map shapes.item items.now ++ last ∷ [])
-        ≡ option_map (λ p. record p { functions = map function all.items ++ p.functions }) (program_behind names.new (last ∷ []))) }
+        ≡ option_map {T = Whole} {U = Whole} (λ p. record p { functions = map function all.items ++ p.functions }) (program_behind names.new (last ∷ []))) }
     ensures not_small { IsErrOf result TreeFault.NotSmall
         → (last : syntax.Item) → program_behind names.old (map shapes.item items.now ++ last ∷ []) ≡ None }
 {
