@@ -1,6 +1,6 @@
 -- Functions, put together one by one before main.
 use Rattle.std.proofs.Common.{◌≡◌, ℕ, ◌+◌, ◌<◌, ◌≤◌, List, [], ◌∷◌, ◌++◌, map, length, drop, get_or, Option, Some, None, option_map, refl, sym, ap, ◌∙◌}
-use Rattle.std.proofs.lemmas.List.{drop_more, at_drop_all, map-append, append-nil}
+use Rattle.std.proofs.lemmas.List.{drop_more, at_drop_all, map-append}
 use Rattle.css_tree.specs.declared.item.Item.{Item}
 use Rattle.css_tree.specs.Syntax as syntax
 use Rattle.css_tree.specs.Shapes.{item}
@@ -66,33 +66,11 @@ one_less all i x last names done below is none =
 pub all_done : (all : List Item) (i : ℕ) (last : syntax.Item) (names : List (List ℕ)) (done : List coded.Function) → length all ≤ i → on done (from all i last names) ≡ on done (program_behind names (last ∷ []))
 all_done all i last names done past = at_drop_all (λ l. on done (program_behind names (map item l ++ last ∷ []))) all i past
 
--- main alone
-pub main_last : (names : List (List ℕ)) (x : syntax.Item) (t : syntax.Function) (f : Function) → x ≡ syntax.Define t → main_behind names t ≡ Some f → program_behind names (x ∷ []) ≡ Some (main_alone f)
-main_last names x t f defines gives = ap (λ y. program_behind names (y ∷ [])) defines ∙ ap (option_map main_alone) gives
-
+-- what is no main
 pub no_main : (names : List (List ℕ)) (x : syntax.Item) → ((t : syntax.Function) → x ≡ syntax.Define t → main_behind names t ≡ None) → program_behind names (x ∷ []) ≡ None
 no_main names (syntax.Declare d) none = refl
 no_main names (syntax.Define t) none = ap (option_map main_alone) (none t refl)
 
--- ---- a whole program
-
-last_apart : (items others : List Item) (last : Item) → items ≡ others ++ last ∷ [] → program_of (map item items) ≡ program_behind [] (map item others ++ item last ∷ [])
+-- the last item apart
+pub last_apart : (items others : List Item) (last : Item) → items ≡ others ++ last ∷ [] → program_of (map item items) ≡ program_behind [] (map item others ++ item last ∷ [])
 last_apart items others last is = ap (λ l. program_of (map item l)) is ∙ ap program_of (map-append item others (last ∷ []))
-
-pub whole : (items others : List Item) (last : Item) (done : List coded.Function) (main : coded.Function) (names : List (List ℕ)) (t : syntax.Function) → items ≡ others ++ last ∷ []
-    → ((l : syntax.Item) → program_behind [] (map item others ++ l ∷ []) ≡ on done (program_behind names (l ∷ [])))
-    → item last ≡ syntax.Define t → main_behind names t ≡ Some (function main)
-    → program_of (map item items) ≡ Some (record { functions = map function done; main = function main })
-whole items others last done main names t is read defines gives =
-    last_apart items others last is ∙ read (item last) ∙ ap (on done) (main_last names (item last) t (function main) defines gives)
-    ∙ ap (λ fs. Some (record { functions = fs; main = function main })) (append-nil (map function done))
-
-pub without_main : (items others : List Item) (last : Item) (done : List coded.Function) (names : List (List ℕ)) → items ≡ others ++ last ∷ []
-    → ((l : syntax.Item) → program_behind [] (map item others ++ l ∷ []) ≡ on done (program_behind names (l ∷ [])))
-    → ((t : syntax.Function) → item last ≡ syntax.Define t → main_behind names t ≡ None)
-    → program_of (map item items) ≡ None
-without_main items others last done names is read none = last_apart items others last is ∙ read (item last) ∙ ap (on done) (no_main names (item last) none)
-
-pub without_functions : (items others : List Item) (last : Item) → items ≡ others ++ last ∷ []
-    → ((l : syntax.Item) → program_behind [] (map item others ++ l ∷ []) ≡ None) → program_of (map item items) ≡ None
-without_functions items others last is none = last_apart items others last is ∙ none (item last)

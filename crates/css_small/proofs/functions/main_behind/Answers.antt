@@ -25,5 +25,5 @@ returns-clause-ok c =
     let named : bytes_eq t.name (codes "main") ≡ true = search rules in
     let void : is_void_alone t.parameters ≡ true = search rules in
     let reads : main_behind c.args.functions t ≡ body_of false t.line t.end c.in_main-names.result t.body =
-      main_is c.args.functions t none int stars named void ∙ ap (λ n. body_of false t.line t.end n t.body) (sym c.in_main-names.ensures) in
+    main_is c.args.functions t none int stars named void ∙ ap (λ n. body_of false t.line t.end n t.body) (sym c.in_main-names.ensures) in
     in_other_words c.with_body.result (λ f gives. (t, defines, reads ∙ gives)) c.with_body.ensures.ok
