@@ -9,7 +9,7 @@
 --             | `putchar` `(` expr `)` `;` | `return` expr `;` | `if` `(` expr `)` stmt [ `else` stmt ] | `while` `(` expr `)` stmt
 --   expr     := the unary operators `+` `-` `~` `!` and the binary ones over variables, P `[` expr `]` and constants of type int
 -- Marks, calls, `putchar` and `return` stand in main alone. A name is known from its declaration on, and is declared once.
-use Rattle.std.specs.Prelude.{ℕ, ◌+◌, ◌-◌, nat_le, Bool, true, false, ◌&&◌, if◌then◌else◌, List, [], ◌∷◌, ◌++◌, length, codes, Option, Some, None, bytes_eq, option_map, option_and_then}
+use Rattle.std.specs.Prelude.{ℕ, ◌-◌, nat_le, Bool, true, false, ◌&&◌, if◌then◌else◌, List, [], ◌∷◌, ◌++◌, length, codes, Option, Some, None, bytes_eq, option_map, option_and_then}
 use Rattle.css_base.specs.declared.int_type.IntType.TheVariants as types
 use Rattle.css_base.specs.Tokens as tokens
 use Rattle.css_base.specs.Tokens.{Kind, Word, Punctuator, Lexemes, At}
@@ -20,7 +20,6 @@ use Rattle.css_tree.specs.declared.operators.UnaryOperator.{UnaryOperator}
 use Rattle.css_tree.specs.declared.operators.UnaryOperator.TheVariants as unaries
 use Rattle.css_tree.specs.declared.operators.BinaryOperator.{BinaryOperator}
 use Rattle.css_tree.specs.declared.operators.BinaryOperator.TheVariants as binaries
-use Rattle.css_tree.specs.declared.operators.AssignOperator.{AssignOperator}
 use Rattle.css_tree.specs.declared.operators.AssignOperator.TheVariants as assignments
 use Rattle.css_tree.specs.declared.words.Specifier.{Specifier}
 use Rattle.css_tree.specs.declared.words.Specifier.TheVariants as specifiers

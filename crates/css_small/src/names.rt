@@ -1,7 +1,7 @@
 //! What may be named at a place.
-ghost use Rattle.std.specs.Prelude.{◌≡◌, ℕ, ◌+◌, ◌-◌, ◌<◌, ◌≤◌, [], ◌∷◌, ◌++◌, length, bytes_eq, true, false, IfOk, OnOk, OnErr, IsErrOf};
+ghost use Rattle.std.specs.Prelude.{◌≡◌, ◌-◌, ◌≤◌, [], ◌∷◌, ◌++◌, length, bytes_eq, true, false, IfOk, OnOk, OnErr, IsErrOf};
 ghost use Rattle.std.specs.List.{list_any};
-ghost use Rattle.css_small.specs.Names.{Names as Scope, reserved, with_object, in_main, in_function, is_in_main, variable_of, is_parameter, function_of, is_among, is_fresh, may_declare, may_define};
+ghost use Rattle.css_small.specs.Names.{reserved, with_object, in_main, in_function, is_in_main, variable_of, is_parameter, function_of, is_among, is_fresh, may_declare, may_define};
 
 use crate::name_set::NameSet;
 use crate::tree_fault::TreeFault;
