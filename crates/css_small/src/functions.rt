@@ -95,10 +95,7 @@ fn main_behind(alloc: Global, functions: NameSet, item: &Item) -> Result<Functio
     else {
         return Err(TreeFault::NotSmall);
     };
-    if !is_int(specifiers.as_slice())
-        || !stars.is_empty()
-        || name.as_slice() != b"main".as_slice()
-    {
+    if !is_int(specifiers.as_slice()) || !stars.is_empty() || name.as_slice() != b"main".as_slice() {
         return Err(TreeFault::NotSmall);
     }
     let body = body_of(alloc, Names::in_main(alloc, functions), block)?;
@@ -130,10 +127,7 @@ fn pointer_of(parameters: &Parameters) -> Option<&[u8]>
     let [only] = all.as_slice() else {
         return None;
     };
-    if !is_int(only.specifiers.as_slice())
-        || !is_star(only.stars.as_slice())
-        || !only.dimensions.is_empty()
-    {
+    if !is_int(only.specifiers.as_slice()) || !is_star(only.stars.as_slice()) || !only.dimensions.is_empty() {
         return None;
     }
     match &only.name {
@@ -173,11 +167,7 @@ fn task_of(words: &[Token]) -> Option<&[u8]>
     let [first, second, opens, parameter, closes] = words else {
         return None;
     };
-    if is_word(first, b"task")
-        && is_word(second, b"inout")
-        && is_mark(opens, b"(")
-        && is_mark(closes, b")")
-    {
+    if is_word(first, b"task") && is_word(second, b"inout") && is_mark(opens, b"(") && is_mark(closes, b")") {
         word_of(parameter)
     } else {
         None
