@@ -46,21 +46,21 @@ fn items(rt: HostRuntime) -> Result<(), Fail> {
             "1:[Int] 1:a, 1:*{}b, 1:c[2][];",
         ),
         ("int\nx\n,\ny ;", "1:[Int] 2:x, 4:y;"),
-        ("int f ( ) ;", "1:[Int] f();"),
-        ("int f ( void ) ;", "1:[Int] f(void);"),
-        ("int f ( void , int ) ;", "1:[Int] f(1:[Void], 1:[Int]);"),
-        ("int f ( void * ) ;", "1:[Int] f(1:[Void]*{});"),
+        ("int f ( ) ;", "1-1:[Int] f();"),
+        ("int f ( void ) ;", "1-1:[Int] f(void);"),
+        ("int f ( void , int ) ;", "1-1:[Int] f(1:[Void], 1:[Int]);"),
+        ("int f ( void * ) ;", "1-1:[Int] f(1:[Void]*{});"),
         (
             "void * f ( int a [ ] [ 3 ] , char * ) ;",
-            "1:[Void] *{}f(1:[Int]a[][3], 1:[Char]*{});",
+            "1-1:[Void] *{}f(1:[Int]a[][3], 1:[Char]*{});",
         ),
         (
             "#pragma css task input a\nvoid f ( void ) ;",
-            "1:#3 2:[Void] f(void);",
+            "1:#3 2-2:[Void] f(void);",
         ),
         (
             "int f ( void ) { }\nint g ( void ) { }",
-            "1:[Int] f(void)1:{} 2:[Int] g(void)2:{}",
+            "1-1:[Int] f(void)1:{} 2-2:[Int] g(void)2:{}",
         ),
     ] {
         assert_eq!(rt; read(alloc, text)?.as_str(), want, "{text}");
@@ -133,7 +133,7 @@ fn statements(rt: HostRuntime) -> Result<(), Fail> {
             "if ( a ) ; else if ( b ) ; else c ;",
             "1:if(a)1:;else 1:if(b)1:;else 1:c;",
         ),
-        ("while ( a )\nb ;", "1:while(a)2:b;"),
+        ("while ( a ) b ;", "1:while(a)1:b;"),
         ("do a ; while ( b ) ;", "1:do 1:a;while(b);"),
         ("for ( ; ; ) ;", "1:for(;;)1:;"),
         ("for ( a ; b ; c ) ;", "1:for(a;b;c)1:;"),
@@ -146,12 +146,39 @@ fn statements(rt: HostRuntime) -> Result<(), Fail> {
             "1:break; 1:continue; 1:return; 1:return a;",
         ),
         ("int x ; x ; int y ;", "1:[Int] 1:x; 1:x; 1:[Int] 1:y;"),
-        ("\n#pragma css wait on a\n;", "2:#3 3:;"),
     ] {
-        let mut whole = String::from_str(alloc, "1:[Int] f()1:{")?;
+        let mut whole = String::from_str(alloc, "1-1:[Int] f()1:{")?;
         whole.push_str(want)?;
         whole.push_str("}")?;
         assert_eq!(rt; read_body(alloc, body)?.as_str(), whole.as_str(), "{body}");
+    }
+    Ok(())
+}
+
+/// A function begins in the line of its first word and ends in that of its last token.
+#[test]
+fn several_lines(rt: HostRuntime) -> Result<(), Fail> {
+    let alloc = rt.alloc();
+    for (text, want) in [
+        (
+            "int f ( ) {\nwhile ( a )\nb ;\n}\nint x ;",
+            "1-4:[Int] f()1:{2:while(a)3:b;} 5:[Int] 5:x;",
+        ),
+        (
+            "int f ( ) {\n#pragma css wait on a\n; }",
+            "1-3:[Int] f()1:{2:#3 3:;}",
+        ),
+        ("int\nf (\n) ;", "1-3:[Int] f();"),
+        (
+            "#pragma css task input a\nvoid f ( void )\n{\n}",
+            "1:#3 2-4:[Void] f(void)3:{}",
+        ),
+        (
+            "int f ( ) { } int g ( )\n{ } int h ( ) ;",
+            "1-1:[Int] f()1:{} 1-2:[Int] g()2:{} 2-2:[Int] h();",
+        ),
+    ] {
+        assert_eq!(rt; read(alloc, text)?.as_str(), want, "{text}");
     }
     Ok(())
 }

@@ -7,7 +7,7 @@ use Rattle.css_tree.specs.declared.scope.Scope.TheVariants as scopes
 use Rattle.css_tree.specs.declared.words.Specifier.TheVariants as specifiers
 use Rattle.css_tree.specs.Syntax as tree
 use Rattle.css_tree.specs.Syntax.{Stars, Dimensions, Mark, Parameter, Parameters, Empty, VoidAlone, Listed, Body, Function, Item, Define, Declare, Tree}
-use Rattle.css_tree.specs.Parts.{kind_at, first_line, These, mark, word, Are}
+use Rattle.css_tree.specs.Parts.{kind_at, first_line, last_line, These, mark, word, Are}
 use Rattle.css_tree.specs.Words.{specifier_kind, SpellsSpecifiers, SpellsStars}
 use Rattle.css_tree.specs.Declarations.{SpellsBehindCommas, SpellsBetweenCommas, SpellsDimensions}
 use Rattle.css_tree.specs.Items.{SpellsOptionalName, SpellsParameter, SpellsParameters, SpellsOptionalMark, SpellsBody, SpellsFunction, SpellsItem, SpellsProgram}
@@ -19,6 +19,7 @@ use Rattle.css_parse.specs.Readings.{IsNoNext, ReadsName, ReadsMark, ReadsEntrie
 use Rattle.css_parse.specs.ItemReadings.{ReadsOptionalName, ReadsParameter, ReadsFurtherParameters, ReadsVoid, ReadsListed, ReadsParameters, ReadsBody, ReadsOptionalMark, ReadsFunction, ReadsItem, ReadsItems}
 use Rattle.css_parse.proofs.FrontTokens.{one_kind, differ, apart, same_fronts}
 use Rattle.css_parse.proofs.WordTexts.{specifier_read}
+use Rattle.css_parse.proofs.Ends.{front_read}
 use Rattle.css_parse.proofs.OneItem.{one_parameter, one_item}
 use Rattle.css_parse.proofs.Sound.{one_items}
 use Rattle.css_parse.proofs.SoundDeclaration.{some_words, some_front}
@@ -222,6 +223,7 @@ function_read most ts f rest s low = by s.begins s.parts
           opens = next_is o inside opens;
           reads_parameters = parameters_read most s.parameters f.parameters c behind closes s.spells_parameters (omega arith);
           reads_body = body_read most s.body f.body rest s.spells_body (omega arith);
+          end_is = ap last_line (front_read ts rest refl) ∙ s.end_is;
         }
 
 pub item_read : (most : ℕ) (ts : List Lexeme) (i : Item) (rest : List Lexeme) → SpellsItem ts i → height_of_item i ≤ most → ReadsItem most (ts ++ rest) i rest

@@ -8,6 +8,7 @@ pub mod FrontTokens
 pub mod Gathering
 pub mod OneDeclaration
 pub mod OneStatement
+pub mod Ends
 pub mod OneItem
 pub mod GatheredWords
 pub mod GatheredParts

@@ -5,11 +5,11 @@ use Rattle.css_base.specs.Tokens.{Kind, Word, Punctuator, Lexeme}
 use Rattle.css_tree.specs.declared.scope.Scope.TheVariants as scopes
 use Rattle.css_tree.specs.declared.words.Specifier.{Specifier}
 use Rattle.css_tree.specs.Syntax.{Stars, Dimensions, Initialiser, Declarator, Declaration, Mark, Entries, Parameter, Parameters, Empty, VoidAlone, Listed, Body, Function, Item, Define, Declare, Tree}
-use Rattle.css_tree.specs.Parts.{first_line}
+use Rattle.css_tree.specs.Parts.{first_line, last_line}
 use Rattle.css_parse.specs.Fronts.{Next}
 use Rattle.css_parse.specs.Words.{next_specifier, specifier_of, ReadsSpecifiers, ReadsStars, TakesSpecifiers}
 use Rattle.css_parse.specs.Readings.{ReadsDimensions, ReadsInitial, ReadsName, ReadsHead, ReadsTail, ReadsDeclarators, ReadsFurtherDeclarators, ReadsDeclaration, ReadsMark, ReadsEntries}
-use Rattle.css_parse.specs.ItemReadings.{ReadsOptionalName, ReadsParameter, ReadsFurtherParameters, ReadsVoid, ReadsListed, ReadsParameters, ReadsBody, ReadsOptionalMark, ReadsFront, ReadsFunction, ReadsItem}
+use Rattle.css_parse.specs.ItemReadings.{ReadsOptionalName, ReadsParameter, ReadsFurtherParameters, ReadsVoid, ReadsListed, ReadsParameters, ReadsBody, ReadsOptionalMark, ReadsFront, read, ReadsFunction, ReadsItem}
 use Rattle.css_parse.proofs.FrontTokens.{one_next, one_kind, apart}
 use Rattle.css_parse.proofs.OneDeclaration.{no_specifier, one_specifiers, one_stars, one_dimensions, one_name, one_head, one_declaration}
 use Rattle.css_parse.proofs.OneStatement.{one_mark, one_entries}
@@ -102,11 +102,11 @@ one_optional_mark ts None (Some y) {vs = vs} a b = absurd (a.1 y vs b)
 one_optional_mark ts (Some x) None {us} a b = absurd (b.1 x us a)
 one_optional_mark ts (Some x) (Some y) a b = let same = one_mark a b in (ap Some same.0, same.1)
 
-abbrev make_function : Option Mark → ℕ → List Specifier → Stars → List ℕ → Parameters → Option Body → Function
-make_function x0 x1 x2 x3 x4 x5 x6 = record { directive = x0; line = x1; specifiers = x2; stars = x3; name = x4; parameters = x5; body = x6 }
+abbrev make_function : Option Mark → ℕ → ℕ → List Specifier → Stars → List ℕ → Parameters → Option Body → Function
+make_function x0 x1 x2 x3 x4 x5 x6 x7 = record { directive = x0; line = x1; end = x2; specifiers = x3; stars = x4; name = x5; parameters = x6; body = x7 }
 
-same_function : (f g : Function) → f.directive ≡ g.directive → f.line ≡ g.line → f.specifiers ≡ g.specifiers → f.stars ≡ g.stars → f.name ≡ g.name → f.parameters ≡ g.parameters → f.body ≡ g.body → f ≡ g
-same_function p q e0 e1 e2 e3 e4 e5 e6 = ap (λ x. make_function x p.line p.specifiers p.stars p.name p.parameters p.body) e0 ∙ ap (λ x. make_function q.directive x p.specifiers p.stars p.name p.parameters p.body) e1 ∙ ap (λ x. make_function q.directive q.line x p.stars p.name p.parameters p.body) e2 ∙ ap (λ x. make_function q.directive q.line q.specifiers x p.name p.parameters p.body) e3 ∙ ap (λ x. make_function q.directive q.line q.specifiers q.stars x p.parameters p.body) e4 ∙ ap (λ x. make_function q.directive q.line q.specifiers q.stars q.name x p.body) e5 ∙ ap (λ x. make_function q.directive q.line q.specifiers q.stars q.name q.parameters x) e6
+same_function : (f g : Function) → f.directive ≡ g.directive → f.line ≡ g.line → f.end ≡ g.end → f.specifiers ≡ g.specifiers → f.stars ≡ g.stars → f.name ≡ g.name → f.parameters ≡ g.parameters → f.body ≡ g.body → f ≡ g
+same_function p q e0 e1 e2 e3 e4 e5 e6 e7 = ap (λ x. make_function x p.line p.end p.specifiers p.stars p.name p.parameters p.body) e0 ∙ ap (λ x. make_function q.directive x p.end p.specifiers p.stars p.name p.parameters p.body) e1 ∙ ap (λ x. make_function q.directive q.line x p.specifiers p.stars p.name p.parameters p.body) e2 ∙ ap (λ x. make_function q.directive q.line q.end x p.stars p.name p.parameters p.body) e3 ∙ ap (λ x. make_function q.directive q.line q.end q.specifiers x p.name p.parameters p.body) e4 ∙ ap (λ x. make_function q.directive q.line q.end q.specifiers q.stars x p.parameters p.body) e5 ∙ ap (λ x. make_function q.directive q.line q.end q.specifiers q.stars q.name x p.body) e6 ∙ ap (λ x. make_function q.directive q.line q.end q.specifiers q.stars q.name q.parameters x) e7
 
 pub one_function : {most : ℕ} {ts us vs : List Lexeme} {f g : Function} → ReadsFunction most ts f us → ReadsFunction most ts g vs → (f ≡ g) × (us ≡ vs)
 one_function {most} {ts} {vs = vs} {f} {g} a b =
@@ -117,7 +117,8 @@ one_function {most} {ts} {vs = vs} {f} {g} a b =
     let list = one_parameters most a.inside f.parameters g.parameters a.reads_parameters (subst (λ l. ReadsParameters most l g.parameters b.next) (sym inside) b.reads_parameters) in
     let body = one_body most a.next f.body g.body a.reads_body (subst (λ l. ReadsBody most l g.body vs) (sym list.1) b.reads_body) in
     let line : f.line ≡ g.line = sym a.line_is ∙ ap first_line mark.1 ∙ b.line_is in
-    (same_function f g mark.0 line words.0 head.0 head.1 list.0 body.0, body.1)
+    let end : f.end ≡ g.end = sym a.end_is ∙ ap (λ l. last_line (read ts l)) body.1 ∙ b.end_is in
+    (same_function f g mark.0 line end words.0 head.0 head.1 list.0 body.0, body.1)
 
 -- behind an object's name stands no opening parenthesis
 not_opened_behind : (most : ℕ) (ts : List Lexeme) (ds : List Declarator) (us : List Lexeme) {vs : List Lexeme} → ReadsFurtherDeclarators scopes.File most ts ds us → Next (Punctuator (codes "(")) ts vs → ⊥

@@ -3,15 +3,17 @@ use Rattle.std.proofs.Common.{◌≡◌, ℕ, ◌+◌, ◌-◌, ◌<◌, ◌≤�
 use Rattle.std.proofs.lemmas.List.{length-append}
 use Rattle.css_base.specs.Tokens.{Kind, Word, Punctuator, Lexeme}
 use Rattle.css_tree.specs.declared.scope.Scope.TheVariants as scopes
-use Rattle.css_tree.specs.Syntax.{Mark, Parameter, Parameters, Empty, VoidAlone, Listed, Body, Function, Item, Define, Declare, Tree}
-use Rattle.css_tree.specs.Parts.{kind_at, first_line, word, Are}
+use Rattle.css_tree.specs.declared.words.Specifier.{Specifier}
+use Rattle.css_tree.specs.Syntax.{Stars, Mark, Parameter, Parameters, Empty, VoidAlone, Listed, Body, Function, Item, Define, Declare, Tree}
+use Rattle.css_tree.specs.Parts.{kind_at, first_line, last_line, word, Are}
 use Rattle.css_tree.specs.Words.{SpellsSpecifiers}
 use Rattle.css_tree.specs.Declarations.{SpellsBehindCommas, SpellsBetweenCommas}
 use Rattle.css_tree.specs.Items.{SpellsOptionalName, SpellsParameter, SpellsParameters, SpellsOptionalMark, SpellsBody, SpellsFunction, SpellsItem, SpellsProgram}
 use Rattle.css_tree.specs.Heights.{height_of_dimensions, height_of_parameters, height_of_list, height_of_body, height_of_item, height_of_tree}
 use Rattle.css_parse.specs.Fronts.{Next}
 use Rattle.css_parse.specs.Refusals.{Spells}
-use Rattle.css_parse.specs.ItemReadings.{ReadsOptionalName, ReadsParameter, ReadsFurtherParameters, ReadsVoid, ReadsListed, ReadsParameters, ReadsBody, ReadsOptionalMark, ReadsFunction, ReadsItem, ReadsItems}
+use Rattle.css_parse.specs.ItemReadings.{ReadsOptionalName, ReadsParameter, ReadsFurtherParameters, ReadsVoid, ReadsListed, ReadsParameters, ReadsBody, ReadsOptionalMark, ReadsFront, ReadsFunction, ReadsItem, ReadsItems}
+use Rattle.css_parse.proofs.Ends.{front_read}
 use Rattle.css_parse.proofs.OneItem.{one_item}
 use Rattle.css_parse.proofs.SoundDeclaration.{Cut, led, followed, none_before, one_before, last_one, front_line, some_words, some_front, some_behind_front, specifiers_spelled, stars_spelled, dimensions_spelled, declaration_spelled}
 use Rattle.css_parse.proofs.SoundStatement.{mark_spelled, entries_spelled}
@@ -167,11 +169,12 @@ function_spelled {most} {ts} {rest} {f} r =
     let parts : Cut r.start behind rest =
     followed words.parts (followed stars.parts (led name.token name.parts (led opening.token opening.parts (followed list.parts (led list.token refl body.parts))))) in
     let some = some_front words.front (stars.front ++ name.token ∷ (opening.token ∷ (list.front ++ list.token ∷ body.front))) (some_words words.spells) in
+    let whole : Cut ts (mark.front ++ behind) rest = followed mark.parts parts in
     let a = list.low in
     let b = body.low in
     record {
       front = mark.front ++ behind;
-      parts = followed mark.parts parts;
+      parts = whole;
       spells = record {
         directive = mark.front;
         rest = behind;
@@ -182,6 +185,7 @@ function_spelled {most} {ts} {rest} {f} r =
         begins = (_, refl, refl);
         parts = (_, refl, (_, refl, (name.token, _, refl, name.is, (opening.token, _, refl, opening.is, (_, refl, (list.token, _, refl, list.is, refl))))));
         line_is = front_line parts some r.line_is;
+        end_is = sym (ap last_line (front_read (mark.front ++ behind) rest whole.parts)) ∙ r.end_is;
         spells_directive = mark.spells;
         spells_specifiers = words.spells;
         spells_stars = stars.spells;
@@ -192,6 +196,17 @@ function_spelled {most} {ts} {rest} {f} r =
       low = omega arith;
       some = some_behind_front mark.front behind some;
     }
+
+-- what stands before a function's parameters
+pub before_parameters : {ts start behind rest : List Lexeme} {line declared : ℕ} {all : List Specifier} {signs : Stars} {name : List ℕ} (m : Option Mark) → ReadsOptionalMark ts m start → ReadsFront start line declared all signs name behind
+    → Next (Punctuator (codes "(")) behind rest → (front : List Lexeme) × (ts ≡ front ++ rest)
+before_parameters {ts} {rest = rest} {signs = signs} m r front opening =
+    let mark = optional_mark_spelled ts m r in
+    let words = specifiers_spelled front.reads_specifiers in
+    let stars = stars_spelled front.behind signs front.reads_head.reads_stars in
+    let name = front.reads_head.reads_name.word in
+    let parts = followed mark.parts (followed words.parts (followed stars.parts (led name.token name.parts (one_before opening.parts)))) in
+    (mark.front ++ (words.front ++ (stars.front ++ name.token ∷ (opening.token ∷ []))), parts.parts)
 
 pub item_spelled : (most : ℕ) (ts : List Lexeme) (i : Item) {rest : List Lexeme} → ReadsItem most ts i rest → ItemBefore most ts i rest
 item_spelled most ts (Define f) (some, r) = (let x = function_spelled r in let low = x.low in record { front = x.front; parts = x.parts; spells = x.spells; low = omega arith; some = x.some })

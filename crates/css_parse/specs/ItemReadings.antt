@@ -1,10 +1,10 @@
 -- What is read outside blocks.
-use Rattle.std.specs.Prelude.{◌≡◌, ℕ, ◌-◌, ◌<◌, List, [], ◌∷◌, codes, Option, Some, None}
+use Rattle.std.specs.Prelude.{◌≡◌, ℕ, ◌-◌, ◌<◌, List, [], ◌∷◌, length, take, codes, Option, Some, None}
 use Rattle.css_base.specs.Tokens.{Word, Punctuator, Lexeme}
 use Rattle.css_tree.specs.declared.scope.Scope.TheVariants as scopes
 use Rattle.css_tree.specs.declared.words.Specifier.{Specifier}
 use Rattle.css_tree.specs.Syntax.{Stars, Mark, Parameter, Parameters, Empty, VoidAlone, Listed, Body, Function, Item, Define, Declare, Tree}
-use Rattle.css_tree.specs.Parts.{first_line}
+use Rattle.css_tree.specs.Parts.{first_line, last_line}
 use Rattle.css_parse.specs.Fronts.{Next}
 use Rattle.css_parse.specs.Words.{ReadsSpecifiers, ReadsStars}
 use Rattle.css_parse.specs.Readings.{ReadsDimensions, ReadsName, ReadsHead, ReadsDeclaration, ReadsMark, ReadsEntries}
@@ -69,6 +69,10 @@ pub record ReadsFront (ts : List Lexeme) (line declared : ℕ) (words : List Spe
   pub reads_specifiers : ReadsSpecifiers scopes.File ts words behind
   pub reads_head : ReadsHead behind stars name rest
 
+-- the tokens that were read, where the rest follows
+abbrev pub read : List Lexeme → List Lexeme → List Lexeme
+read ts rest = take (length ts - length rest) ts
+
 pub record ReadsFunction (most : ℕ) (ts : List Lexeme) (f : Function) (rest : List Lexeme) : Type 0 where
   pub start : List Lexeme
   pub behind : List Lexeme
@@ -82,6 +86,7 @@ pub record ReadsFunction (most : ℕ) (ts : List Lexeme) (f : Function) (rest : 
   pub opens : Next (Punctuator (codes "(")) middle inside
   pub reads_parameters : ReadsParameters most inside f.parameters next
   pub reads_body : ReadsBody most next f.body rest
+  pub end_is : last_line (read ts rest) ≡ f.end
 
 -- An item is one level.
 abbrev pub ReadsItem : ℕ → List Lexeme → Item → List Lexeme → Type 0

@@ -4,10 +4,11 @@ ghost use Rattle.css_base.specs.Tokens.{Punctuator, Lexeme, lexemes};
 ghost use Rattle.css_tree.specs.Syntax as spec;
 ghost use Rattle.css_tree.specs.declared.scope.Scope.TheVariants as scopes;
 ghost use Rattle.css_tree.specs.declared.words.Specifier as specs;
+ghost use Rattle.css_tree.specs.Parts.{last_line};
 ghost use Rattle.css_tree.specs.Shapes.{stars, mark, body, item};
 ghost use Rattle.css_parse.specs.Fronts.{Next};
 ghost use Rattle.css_parse.specs.Readings.{ReadsTail, ReadsFurtherDeclarators};
-ghost use Rattle.css_parse.specs.ItemReadings.{ReadsParameters, ReadsBody, ReadsOptionalMark, ReadsFront, ReadsItem};
+ghost use Rattle.css_parse.specs.ItemReadings.{ReadsParameters, ReadsBody, ReadsOptionalMark, ReadsFront, read, ReadsItem};
 
 use crate::declaration::{Head, declarator_behind, further_declarators, read_head};
 use crate::fronts::after_mark;
@@ -127,6 +128,7 @@ fn function(
         Item::Function {
             directive,
             line,
+            end: end_line(tokens, rest),
             specifiers,
             stars,
             name,
@@ -135,6 +137,14 @@ fn function(
         },
         rest,
     ))
+}
+
+/// The line of the last of the tokens that were read, where the rest follows.
+fn end_line(tokens: &[Token], rest: &[Token]) -> Line
+    requires { length rest.now < length tokens.now }
+    ensures { result ≡ last_line (read (lexemes tokens.now) (lexemes rest.now)) }
+{
+    tokens[tokens.len() - rest.len() - 1].line
 }
 
 /// A function's block, or a semicolon, and the tokens behind it.

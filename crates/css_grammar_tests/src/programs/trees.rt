@@ -1,4 +1,4 @@
-//! Trees as text, each node with its line.
+//! Trees as text, each node with its line, and a function with its end too.
 use css_base::Bytes;
 use css_tree::{
     Block, Declaration, Declarator, Entry, Expression, ForStart, Initialiser, Item, Mark,
@@ -254,6 +254,7 @@ pub(super) fn write_item(out: &mut String, item: &Item) -> Result<(), AllocError
         Item::Function {
             directive,
             line,
+            end,
             specifiers,
             stars,
             name,
@@ -264,7 +265,7 @@ pub(super) fn write_item(out: &mut String, item: &Item) -> Result<(), AllocError
                 write_mark(out, mark)?;
                 out.push_str(" ")?;
             }
-            write!(out, "{}:", line.number())?;
+            write!(out, "{}-{}:", line.number(), end.number())?;
             write_specifiers(out, specifiers.as_slice())?;
             out.push_str(" ")?;
             write_stars(out, stars.as_slice())?;
