@@ -8,3 +8,4 @@ pub mod Programs
 pub mod Verdicts
 pub mod Points
 pub mod Unmarked
+pub mod UnmarkedTrees

@@ -9,7 +9,7 @@
 --             | `putchar` `(` expr `)` `;` | `return` expr `;` | `if` `(` expr `)` stmt [ `else` stmt ] | `while` `(` expr `)` stmt
 --   expr     := the unary operators `+` `-` `~` `!` and the binary ones over variables, P `[` expr `]` and constants of type int
 -- Marks, calls, `putchar` and `return` stand in main alone. A name is known from its declaration on, and is declared once.
-use Rattle.std.specs.Prelude.{ℕ, ◌+◌, ◌-◌, nat_le, Bool, true, false, ◌&&◌, if◌then◌else◌, List, [], ◌∷◌, ◌++◌, length, codes, Option, Some, None, bytes_eq, option_map, option_and_then}
+use Rattle.std.specs.Prelude.{ℕ, ◌-◌, nat_le, Bool, true, false, ◌&&◌, if◌then◌else◌, List, [], ◌∷◌, ◌++◌, length, codes, Option, Some, None, bytes_eq, option_map, option_and_then}
 use Rattle.css_base.specs.declared.int_type.IntType.TheVariants as types
 use Rattle.css_base.specs.Tokens as tokens
 use Rattle.css_base.specs.Tokens.{Kind, Word, Punctuator, Lexemes, At}
@@ -20,7 +20,6 @@ use Rattle.css_tree.specs.declared.operators.UnaryOperator.{UnaryOperator}
 use Rattle.css_tree.specs.declared.operators.UnaryOperator.TheVariants as unaries
 use Rattle.css_tree.specs.declared.operators.BinaryOperator.{BinaryOperator}
 use Rattle.css_tree.specs.declared.operators.BinaryOperator.TheVariants as binaries
-use Rattle.css_tree.specs.declared.operators.AssignOperator.{AssignOperator}
 use Rattle.css_tree.specs.declared.operators.AssignOperator.TheVariants as assignments
 use Rattle.css_tree.specs.declared.words.Specifier.{Specifier}
 use Rattle.css_tree.specs.declared.words.Specifier.TheVariants as specifiers
@@ -138,7 +137,7 @@ abbrev mutual
   statement_of names (syntax.Evaluate line None) = Some (Empty line)
   statement_of names (syntax.Evaluate line (Some e)) = effect_of names line e
   statement_of names (syntax.If line e s) = both (If line) (expression_of names e) (statement_of names s)
-  statement_of names (syntax.IfElse line e s other) = both (λ f t. f t) (both (IfElse line) (expression_of names e) (statement_of names s)) (statement_of names other)
+  statement_of names (syntax.IfElse line e s other) = both (λ (f : Statement → Statement) (t : Statement). f t) (both (λ e s t. IfElse line e s t) (expression_of names e) (statement_of names s)) (statement_of names other)
   statement_of names (syntax.While line e s) = both (While line) (expression_of names e) (statement_of names s)
   statement_of names (syntax.Return line (Some e)) = where_true (is_in_main names) (option_map (Return line) (expression_of names e))
   statement_of names s = None

@@ -1,8 +1,9 @@
 //! Bodies of functions, with their declarations.
-ghost use Rattle.std.specs.Prelude.{◌≡◌, ◌-◌, ◌≤◌, length, true, Some, None, IfOk, IfSome, IfNone, IsErrOf};
+ghost use Rattle.std.specs.Prelude.{◌≡◌, ◌-◌, length, Some, None, IfOk, IfSome, IfNone, IsErrOf};
 ghost use Rattle.css_tree.specs.Shapes as shapes;
 ghost use Rattle.css_small.specs.Tree.{statement, listed};
-ghost use Rattle.css_small.specs.Trees.{item_of, items_of, behind, behind_all, declared, is_int, variable, with_value};
+ghost use Rattle.css_small.specs.Names.{with_object};
+ghost use Rattle.css_small.specs.Trees.{item_of, items_of, behind, behind_all, declared, is_int, variable};
 
 use crate::expressions::expression_of;
 use crate::names::Names;
@@ -21,21 +22,34 @@ pub(crate) struct Body {
 }
 
 /// The body that this block is, of a function in which these may be named at the front. `NotSmall` comes only where it is none.
-pub(crate) fn body_of(alloc: Global, names: Names, block: &Block) -> Result<Body, TreeFault>
+pub(crate) fn body_of(alloc: Global, mut names: Names, block: &Block) -> Result<Body, TreeFault>
     ensures ok { IfOk result (λ b. items_of names (shapes.body block.now).entries ≡ Some (listed b.statements.items)) }
     ensures variables { IfOk result
         (λ b. b.variables ≡ length (behind_all names (shapes.body block.now).entries).objects - names.parameters) }
     ensures not_small { IsErrOf result TreeFault.NotSmall → items_of names (shapes.body block.now).entries ≡ None }
 {
-    let mut names = names;
-    let mut statements = Vec::new(alloc);
-    for entry in block.entries.as_slice() {
-        add(&mut statements, item_of(alloc, &mut names, entry)?)?;
-    }
+    let statements = items_of(alloc, &mut names, block.entries.as_slice())?;
     Ok(Body {
         statements,
         variables: names.variables(),
     })
+}
+
+/// The statements, directives and declarations that these entries of a function's body are.
+fn items_of(
+    alloc: Global,
+    names: &mut Names,
+    entries: &[Entry],
+) -> Result<Vec<Statement>, TreeFault>
+    ensures ok { IfOk result (λ all. items_of names.old (shapes.listed_entries entries.now) ≡ Some (listed all.items)) }
+    ensures behind { IfOk result (λ all. names.new ≡ behind_all names.old (shapes.listed_entries entries.now)) }
+    ensures not_small { IsErrOf result TreeFault.NotSmall → items_of names.old (shapes.listed_entries entries.now) ≡ None }
+{
+    let mut all = Vec::new(alloc);
+    for entry in entries {
+        add(&mut all, item_of(alloc, names, entry)?)?;
+    }
+    Ok(all)
 }
 
 /// The statement, directive or declaration that this entry of a function's body is.

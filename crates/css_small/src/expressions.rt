@@ -1,5 +1,5 @@
 //! Expressions of the small language.
-ghost use Rattle.std.specs.Prelude.{◌≡◌, Some, None, IfOk, IfErr, IfSome, IsErrOf};
+ghost use Rattle.std.specs.Prelude.{◌≡◌, Some, None, IfOk, IfErr, IsErrOf};
 ghost use Rattle.css_tree.specs.Shapes as shapes;
 ghost use Rattle.css_small.specs.Tree.{expression};
 ghost use Rattle.css_small.specs.Trees.{expression_of, number_of_value, unary_of, joined, names_parameter};
@@ -39,7 +39,9 @@ pub(crate) fn expression_of(
             Ok(Expression::Element(boxed(alloc, index)?))
         }
         css_tree::Expression::Unary {
-            operator, operand, ..
+            operator,
+            operand,
+            ..
         } => {
             let Some(operator) = unary_of(*operator) else {
                 return Err(TreeFault::NotSmall);

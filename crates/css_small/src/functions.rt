@@ -1,10 +1,13 @@
 //! Functions, and main behind them.
-ghost use Rattle.std.specs.Prelude.{◌≡◌, true, false, Some, None, option_map, IfOk, IfSome, IfNone, IsErrOf};
+ghost use Rattle.std.specs.Prelude.{◌≡◌, ℕ, List, [], ◌∷◌, ◌++◌, map, ◌↔◌, IsTrue, Some, None, option_map, IfOk, IfErr, IfSome, IfNone, IsErrOf, OnOk};
+ghost use Rattle.css_base.specs.Tokens.{Word, Punctuator, kind_of, lexemes};
+ghost use Rattle.css_tree.specs.Syntax as syntax;
 ghost use Rattle.css_tree.specs.Shapes as shapes;
 ghost use Rattle.css_small.specs.Tree.{function, program};
-ghost use Rattle.css_small.specs.Trees.{program_of, body_of, is_task_of, pointer_of};
+ghost use Rattle.css_small.specs.Trees as spec;
+ghost use Rattle.css_small.specs.Trees.{program_of, program_behind, function_behind, main_behind, is_void, is_void_alone, pointer_of, is_star, is_task_of, task_of, kinds_of};
 
-use crate::bodies::{self, is_int};
+use crate::bodies::{body_of, is_int};
 use crate::name_set::NameSet;
 use crate::names::{Names, define};
 use crate::tree::{Function, Program};
@@ -22,15 +25,38 @@ pub(crate) fn program_of(alloc: Global, tree: &Tree) -> Result<Program, TreeFaul
         return Err(TreeFault::NotSmall);
     };
     let mut names = NameSet::new(alloc);
-    let mut functions = Vec::new(alloc);
-    for item in others {
-        let next = function_behind(alloc, &mut names, item)?;
-        if functions.push(next).is_err() {
-            return Err(TreeFault::NoMemory);
-        }
-    }
+    let functions = functions_of(alloc, &mut names, others)?;
     let main = main_behind(alloc, names, last)?;
     Ok(Program { functions, main })
+}
+
+/// The functions that these items are, behind those before, where main is the last item. `NotSmall` comes only where one is none.
+fn functions_of(
+    alloc: Global,
+    names: &mut NameSet,
+    items: &[Item],
+) -> Result<Vec<Function>, TreeFault>
+    ensures ok { IfOk result (λ all. (last : syntax.Item) → program_behind names.old (map shapes.item items.now ++ last ∷ [])
+        ≡ option_map (λ p. record p { functions = map function all.items ++ p.functions }) (program_behind names.new (last ∷ []))) }
+    ensures not_small { IsErrOf result TreeFault.NotSmall
+        → (last : syntax.Item) → program_behind names.old (map shapes.item items.now ++ last ∷ []) ≡ None }
+{
+    let mut all = Vec::new(alloc);
+    for item in items {
+        add(&mut all, function_behind(alloc, names, item)?)?;
+    }
+    Ok(all)
+}
+
+/// Puts a function behind others. The only error is `NoMemory`.
+fn add(all: &mut Vec<Function>, next: Function) -> Result<(), TreeFault>
+    ensures ok { OnOk result (all.new.items ≡ all.old.items ++ next ∷ []) }
+    ensures no_memory { IfErr result (λ e. e ≡ TreeFault.NoMemory) }
+{
+    match all.push(next) {
+        Ok(()) => Ok(()),
+        Err(_) => Err(TreeFault::NoMemory),
+    }
 }
 
 /// The function that this item is, which is then among those before. `NotSmall` comes only where it is none.
@@ -48,7 +74,7 @@ fn function_behind(alloc: Global, before: &mut NameSet, item: &Item) -> Result<F
         stars,
         name,
         parameters,
-        body: Some(block),
+        body,
     } = item
     else {
         return Err(TreeFault::NotSmall);
@@ -64,15 +90,7 @@ fn function_behind(alloc: Global, before: &mut NameSet, item: &Item) -> Result<F
     };
     define(alloc, before, name.as_slice())?;
     let names = Names::in_function(alloc, parameter)?;
-    let body = body_of(alloc, names, block)?;
-    Ok(Function {
-        is_task,
-        line: *line,
-        end: *end,
-        parameters: 1,
-        variables: body.variables,
-        body: body.statements,
-    })
+    with_body(alloc, is_task, *line, *end, 1, names, body)
 }
 
 /// Main, which this item is, behind these functions. `NotSmall` comes only where it is none.
@@ -83,30 +101,66 @@ fn main_behind(alloc: Global, functions: NameSet, item: &Item) -> Result<Functio
         → shapes.item item.now ≡ syntax.Define t → main_behind functions t ≡ None }
 {
     let Item::Function {
-        directive: None,
+        directive,
         line,
         end,
         specifiers,
         stars,
         name,
-        parameters: Parameters::Void,
-        body: Some(block),
+        parameters,
+        body,
     } = item
     else {
         return Err(TreeFault::NotSmall);
     };
-    if !is_int(specifiers.as_slice()) || !stars.is_empty() || name.as_slice() != b"main".as_slice() {
+    if directive.is_some()
+        || !is_int(specifiers.as_slice())
+        || !stars.is_empty()
+        || name.as_slice() != b"main".as_slice()
+        || !is_void_alone(parameters)
+    {
         return Err(TreeFault::NotSmall);
     }
-    let body = body_of(alloc, Names::in_main(alloc, functions), block)?;
+    let names = Names::in_main(alloc, functions);
+    with_body(alloc, false, *line, *end, 0, names, body)
+}
+
+/// The function with these lines of its first and last token and this body, in which these may be named at the front. `NotSmall`
+/// comes only where it is none.
+fn with_body(
+    alloc: Global,
+    is_task: bool,
+    line: Line,
+    end: Line,
+    parameters: u32,
+    names: Names,
+    body: &Option<Block>,
+) -> Result<Function, TreeFault>
+    requires { parameters ≡ names.parameters }
+    ensures ok { IfOk result
+        (λ f. spec.body_of is_task line end names (option_map shapes.body body.now) ≡ Some (function f)) }
+    ensures not_small { IsErrOf result TreeFault.NotSmall
+        → spec.body_of is_task line end names (option_map shapes.body body.now) ≡ None }
+{
+    let Some(block) = body else {
+        return Err(TreeFault::NotSmall);
+    };
+    let body = body_of(alloc, names, block)?;
     Ok(Function {
-        is_task: false,
-        line: *line,
-        end: *end,
-        parameters: 0,
+        is_task,
+        line,
+        end,
+        parameters,
         variables: body.variables,
         body: body.statements,
     })
+}
+
+/// Whether there is `void` alone between a function's parentheses.
+fn is_void_alone(parameters: &Parameters) -> bool
+    ensures { result ≡ is_void_alone (shapes.parameters parameters.now) }
+{
+    matches!(parameters, Parameters::Void)
 }
 
 /// Whether the words are `void` alone.
@@ -161,9 +215,12 @@ fn is_task_of(parameter: &[u8], directive: &Option<Mark>) -> Option<bool>
 
 /// The parameter that a task's directive names.
 fn task_of(words: &[Token]) -> Option<&[u8]>
-    ensures some { IfSome result (λ name. task_of (kinds words.now) ≡ Some name.now) }
-    ensures none { IfNone result (task_of (kinds words.now) ≡ None) }
+    ensures some { IfSome result (λ name. task_of (kinds_of (shapes.in_row (lexemes words.now))) ≡ Some name.now) }
+    ensures none { IfNone result (task_of (kinds_of (shapes.in_row (lexemes words.now))) ≡ None) }
 {
+    if words.len() != 5 {
+        return None;
+    }
     let [first, second, opens, parameter, closes] = words else {
         return None;
     };
@@ -171,5 +228,36 @@ fn task_of(words: &[Token]) -> Option<&[u8]>
         word_of(parameter)
     } else {
         None
+    }
+}
+
+/// Whether this is the word.
+fn is_word(token: &Token, word: &[u8]) -> bool
+    ensures { IsTrue result ↔ (kind_of token.now.kind ≡ Word word.now) }
+{
+    match &token.kind {
+        TokenKind::Word(bytes) => bytes.as_slice() == word,
+        _ => false,
+    }
+}
+
+/// Whether this is the punctuator.
+fn is_mark(token: &Token, mark: &[u8]) -> bool
+    ensures { IsTrue result ↔ (kind_of token.now.kind ≡ Punctuator mark.now) }
+{
+    match &token.kind {
+        TokenKind::Punctuator(bytes) => bytes.as_slice() == mark,
+        _ => false,
+    }
+}
+
+/// The bytes of a word.
+fn word_of(token: &Token) -> Option<&[u8]>
+    ensures some { IfSome result (λ word. kind_of token.now.kind ≡ Word word.now) }
+    ensures none { IfNone result ((word : List ℕ) → kind_of token.now.kind ≡ Word word → ⊥) }
+{
+    match &token.kind {
+        TokenKind::Word(bytes) => Some(bytes.as_slice()),
+        _ => None,
     }
 }

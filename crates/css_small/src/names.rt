@@ -1,6 +1,7 @@
 //! What may be named at a place.
-ghost use Rattle.std.specs.Prelude.{◌≡◌, ℕ, ◌+◌, ◌-◌, ◌<◌, ◌≤◌, [], ◌∷◌, ◌++◌, length, codes, true, false, IfOk, OnOk, OnErr, IsErrOf};
-ghost use Rattle.css_small.specs.Names.{Names as Scope, reserved, with_object, in_main, in_function, is_in_main, variable_of, is_parameter, function_of, is_among, is_fresh, may_declare, may_define};
+ghost use Rattle.std.specs.Prelude.{◌≡◌, ◌-◌, ◌≤◌, [], ◌∷◌, ◌++◌, length, bytes_eq, true, false, IfOk, OnOk, OnErr, IsErrOf};
+ghost use Rattle.std.specs.List.{list_any};
+ghost use Rattle.css_small.specs.Names.{reserved, with_object, in_main, in_function, is_in_main, variable_of, is_parameter, function_of, is_among, is_fresh, may_declare, may_define};
 
 use crate::name_set::NameSet;
 use crate::tree_fault::TreeFault;
@@ -192,5 +193,12 @@ fn is_fresh(names: &NameSet, name: &[u8]) -> bool
 fn is_reserved(name: &[u8]) -> bool
     ensures { result ≡ is_among reserved name.now }
 {
-    RESERVED.iter().any(|word| *word == name)
+    is_listed(&RESERVED, name)
+}
+
+/// Whether a name is among some words.
+fn is_listed(words: &[&[u8]], name: &[u8]) -> bool
+    ensures { result ≡ list_any (λ word. bytes_eq word.now name.now) words.now }
+{
+    words.iter().any(|word| *word == name)
 }

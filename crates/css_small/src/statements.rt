@@ -1,9 +1,9 @@
 //! Statements and directives of the small language.
-ghost use Rattle.std.specs.Prelude.{◌≡◌, ℕ, ◌∷◌, [], Some, None, IfOk, IfErr, IfSome, IsErrOf};
+ghost use Rattle.std.specs.Prelude.{◌≡◌, ◌++◌, ◌∷◌, [], Some, None, IfOk, IfErr, OnOk, IsErrOf};
 ghost use Rattle.css_base.specs.Tokens.{lexemes};
 ghost use Rattle.css_tree.specs.Shapes as shapes;
 ghost use Rattle.css_small.specs.Tree.{statement, listed};
-ghost use Rattle.css_small.specs.Trees.{statement_of, statements_of, entry_of, effect_of, assignment_of, call_of, address_of, mark_of, directive_named};
+ghost use Rattle.css_small.specs.Trees.{statement_of, statements_of, entry_of, effect_of, assignment_of, call_of, address_of, mark_of, kinds_of, directive_of, directive_named};
 
 use crate::expressions::{expression_of, names_parameter};
 use crate::names::Names;
@@ -28,7 +28,9 @@ pub(crate) fn statement_of(
             line: block.line,
             statements: statements_of(alloc, names, block.entries.as_slice())?,
         }),
-        css_tree::Statement::Expression { line, value: None } => Ok(Statement::Empty { line: *line }),
+        css_tree::Statement::Expression { line, value: None } => Ok(Statement::Empty {
+            line: *line,
+        }),
         css_tree::Statement::Expression {
             line,
             value: Some(value),
@@ -150,11 +152,15 @@ fn effect_of(
             ..
         } => assignment_of(alloc, names, line, place, value),
         Expression::Call {
-            name, arguments, ..
-        } => match arguments.as_slice() {
-            [argument] => call_of(alloc, names, line, name.as_slice(), argument),
-            _ => Err(TreeFault::NotSmall),
-        },
+            name,
+            arguments,
+            ..
+        } => {
+            if arguments.len() != 1 {
+                return Err(TreeFault::NotSmall);
+            }
+            call_of(alloc, names, line, name.as_slice(), &arguments[0])
+        }
         _ => Err(TreeFault::NotSmall),
     }
 }
@@ -245,21 +251,25 @@ pub(crate) fn mark_of(names: &Names, mark: &Mark) -> Result<Statement, TreeFault
     ensures ok { IfOk result (λ s. mark_of names.now (shapes.mark mark.now) ≡ Some (statement s)) }
     ensures not_small { IsErrOf result TreeFault.NotSmall → mark_of names.now (shapes.mark mark.now) ≡ None }
 {
-    if !names.is_in_main() {
-        return Err(TreeFault::NotSmall);
-    }
-    match mark.words.as_slice() {
-        [Token {
-            kind: TokenKind::Word(word),
-            ..
-        }] => match directive_named(word.as_slice()) {
-            Some(kind) => Ok(Statement::Directive {
-                line: mark.line,
-                kind,
-            }),
-            None => Err(TreeFault::NotSmall),
-        },
+    match directive_of(mark.words.as_slice()) {
+        Some(kind) if names.is_in_main() => Ok(Statement::Directive {
+            line: mark.line,
+            kind,
+        }),
         _ => Err(TreeFault::NotSmall),
+    }
+}
+
+/// The directive of main with these words.
+fn directive_of(words: &[Token]) -> Option<Directive>
+    ensures { result ≡ directive_of (kinds_of (shapes.in_row (lexemes words.now))) }
+{
+    let [only] = words else {
+        return None;
+    };
+    match &only.kind {
+        TokenKind::Word(word) => directive_named(word.as_slice()),
+        _ => None,
     }
 }
 

@@ -1,4 +1,4 @@
-//! Texts and the trees that they spell.
+//! Texts and the programs that they spell. What is wanted comes from C99 5.1.1.2 and 6.4 to 6.10.
 use crate::{Expression, Function, Program, Statement, read_program};
 use css_base::FrontFault;
 use std::alloc::{AllocError, Global};
@@ -7,6 +7,8 @@ use std::test::Fail;
 
 mod directives;
 mod functions;
+mod limits;
+mod refusals;
 
 /// Writes an expression with its operators in front and a pair of parentheses for each.
 fn write_expression(out: &mut String, e: &Expression) -> Result<(), AllocError> {
@@ -222,6 +224,8 @@ fn levels(rt: HostRuntime) -> Result<(), Fail> {
         ("1 - - 1", "(Sub 1 (Minus 1))"),
         ("-(1 + 2)", "(Minus (Add 1 2))"),
         ("((x))", "v0"),
+        ("((1)+((2))*(3))", "(Add 1 (Mul 2 3))"),
+        ("(-(-(1)))", "(Minus (Minus 1))"),
     ] {
         let text = format!(in alloc; "int main(void){{int x={expression};}}")?;
         let read = format!(in alloc; "1:int v0={want} 1-1 1")?;
@@ -315,173 +319,81 @@ fn branches(rt: HostRuntime) -> Result<(), Fail> {
     Ok(())
 }
 
-/// What isn't of the part that is built.
+/// Comments, spliced lines, macros and constants of other bases (C99 5.1.1.2, 6.4.4, 6.4.9, 6.10.3).
 #[test]
-fn near_misses(rt: HostRuntime) -> Result<(), Fail> {
+fn lexing(rt: HostRuntime) -> Result<(), Fail> {
     let alloc = rt.alloc();
-    for body in [
-        "int x; x = x --1;",
-        "int x; x = x++x;",
-        "int x = 1 2;",
-        "int x = ();",
-        "int x = (1;",
-        "int x = 1);",
-        "int x = 2147483648;",
-        "int x = 1 +;",
-        "int x = * 1;",
-        "int x = 1, y;",
-        "int x = y;",
-        "int x; x y;",
-        "int x; x = 1",
-        "int x; x + 1;",
-        "int x; int x;",
-        "x = 1; int x;",
-        "int int;",
-        "int if;",
-        "int else;",
-        "int while;",
-        "if = 1;",
-        "else;",
-        "if (1); else; else;",
-        "{ if (1); } else;",
-        "while (1); else;",
-        "if (1);; else;",
-        "if (1) int x;",
-        "if (1); else int x;",
-        "while (1) int x;",
-        "if 1;",
-        "if ();",
-        "if (1 ;",
-        "if (1)",
-        "if (1); else",
-        "if (1) else;",
-        "while (1)",
-        "while ();",
-        "int putchar;",
-        "int _Bool;",
-        "int 1;",
-        "{ int x; }",
-        "return;",
-        "putchar 1;",
-        "putchar(1) + 2;",
-        "putchar();",
-        "{",
-        "}",
+    for (text, want) in [
+        ("/* a */int/* b\n */main(void)// c\n{}", "1-3 0"),
+        ("// int main(void){}\nint main(void){}//", "2-2 0"),
+        ("int main(void){int x=4/*\n*//2;}", "1:int v0=(Div 4 2) 1-2 1"),
+        ("in\\\nt main(vo\\\nid){\\\n}", "1-4 0"),
+        ("int main(void){int x;\nx\\\ny=1;}", "NotBuilt 1"),
+        ("int main(void){int xy;\nx\\\ny=1;}", "1:int v0 2:v0=1 1-3 1"),
+        (
+            "#define N 3\nint main(void){int x=N;\nx=\nN;}",
+            "2:int v0=3 3:v0=3 2-4 1",
+        ),
+        (
+            "#define N M + 1\n#define M 2\nint main(void){int x=N*N;}",
+            "3:int v0=(Add (Add 2 (Mul 1 2)) 1) 3-3 1",
+        ),
+        (
+            "#define N 3\n#undef N\nint main(void){int N=1;}",
+            "3:int v0=1 3-3 1",
+        ),
+        (
+            "#define BEGIN int main(void) {\n#define END }\n\nBEGIN\nEND",
+            "4-5 0",
+        ),
+        (
+            "#include <stdio.h>\n#pragma once\n#\nint main(void){}",
+            "4-4 0",
+        ),
+        ("int main(void){int x=0x10;}", "1:int v0=16 1-1 1"),
+        ("int main(void){int x=0X7fffFFFF;}", "1:int v0=2147483647 1-1 1"),
+        ("int main(void){int x=010;}", "1:int v0=8 1-1 1"),
+        ("int main(void){int x=0;}", "1:int v0=0 1-1 1"),
+        ("int main(void){putchar('a');}", "1:put 97 1-1 0"),
+        (
+            "int main(void){putchar('\\n');putchar('\\x41');putchar('\\101');putchar('\\'');}",
+            "1:put 10 1:put 65 1:put 65 1:put 39 1-1 0",
+        ),
+    ] {
+        check(&rt, alloc, text, want)?;
+    }
+    Ok(())
+}
+
+/// Parentheses round an expression mean nothing (C99 6.5.1).
+#[test]
+fn parentheses(rt: HostRuntime) -> Result<(), Fail> {
+    let alloc = rt.alloc();
+    for (body, want) in [
+        ("int x=((1));", "1:int v0=1 1-1 1"),
+        ("int x;(x)=((2));", "1:int v0 1:v0=2 1-1 1"),
+        ("int x;(x=2);", "1:int v0 1:v0=2 1-1 1"),
+        ("(putchar((3)));", "1:put 3 1-1 0"),
+        ("if(((1)));", "1:if 1 [1:;] 1-1 0"),
+        ("while(((1)));", "1:while 1 [1:;] 1-1 0"),
+        ("return(4);", "1:return 4 1-1 0"),
     ] {
         let text = format!(in alloc; "int main(void){{{body}}}")?;
-        check(&rt, alloc, text.as_str(), "NotBuilt 1")?;
+        check(&rt, alloc, text.as_str(), want)?;
     }
-    for text in [
-        "",
-        "{}",
-        "int main(){}",
-        "int main(void);",
-        "int main(void){};",
-        "int main(void){}}",
-        "void main(void){}",
+    for (body, want) in [
+        ("(p)[0]=(1);", "1:p[0]=1"),
+        ("((p)[(0)])=1;", "1:p[0]=1"),
+        ("p[0]=(p)[((1))];", "1:p[0]=p[1]"),
     ] {
-        check(&rt, alloc, text, "NotBuilt 1")?;
+        let text = format!(in alloc; "void f(int*p){{{body}}}int main(void){{}}")?;
+        let read = format!(in alloc; "{want} 1-1 0 | 1-1 0")?;
+        check(&rt, alloc, text.as_str(), read.as_str())?;
     }
-    Ok(())
-}
-
-/// Whether the text spells a program.
-fn is_read(alloc: Global, text: &str) -> Result<bool, Fail> {
-    match read_program(alloc, text.as_bytes()) {
-        Ok(_) => Ok(true),
-        Err(FrontFault::Static(_)) => Ok(false),
-        Err(FrontFault::NoMemory) => Err(Fail::from("no memory")),
+    for body in ["f((&x));", "f(&(x));", "(f(&x));", "((f((&(x)))));"] {
+        let text = format!(in alloc; "void f(int*p){{}}int main(void){{int x;{body}}}")?;
+        let read = "1-1 0 | 1:int v0 1:f0(v0) 1-1 1";
+        check(&rt, alloc, text.as_str(), read)?;
     }
-}
-
-/// A body of `front`, so many copies of `open`, `middle`, as many of `close`, and `back`, between what stands before and behind it.
-fn nested(
-    alloc: Global,
-    [before, behind]: [&str; 2],
-    [front, open, middle, close, back]: [&str; 5],
-    count: u32,
-) -> Result<String, Fail> {
-    let mut text = String::from_str(alloc, before)?;
-    text.push_str(front)?;
-    for _ in 0..count {
-        text.push_str(open)?;
-    }
-    text.push_str(middle)?;
-    for _ in 0..count {
-        text.push_str(close)?;
-    }
-    text.push_str(back)?;
-    text.push_str(behind)?;
-    Ok(text)
-}
-
-/// What stands round main's body.
-const IN_MAIN: [&str; 2] = ["int main(void){", "}"];
-
-/// Whether so many copies are read, and one more is not.
-fn is_most(alloc: Global, around: [&str; 2], parts: [&str; 5], most: u32) -> Result<bool, Fail> {
-    let last = nested(alloc, around, parts, most)?;
-    let more = nested(alloc, around, parts, most.saturating_add(1))?;
-    Ok(is_read(alloc, last.as_str())? && !is_read(alloc, more.as_str())?)
-}
-
-/// 200 open brackets, 500 levels, 1,000,000 tokens and 4,194,304 bytes are read, and one more is not.
-#[test]
-fn limits(rt: HostRuntime) -> Result<(), Fail> {
-    let alloc = rt.alloc();
-    for (parts, most) in [
-        // Main's brace and 199 others.
-        (["int x=", "(", "1", ")", ";"], 199),
-        (["", "{", "", "}", ""], 199),
-        // Main, its block, the declaration, 496 operators and the constant.
-        (["int x=", "~", "1", "", ";"], 496),
-        (["int x=1", "+1", "", "", ";"], 496),
-        // Main, its block, an assignment as a statement and as an expression, 495 operators and the variable.
-        (["int x;x=", "~", "x", "", ";"], 495),
-        // Main, its block, the return, 496 operators and the constant.
-        (["return ", "!", "1", "", ";"], 496),
-        // Main, its block, ten more, a call as a statement and as an expression, 485 operators and the constant.
-        (["{{{{{{{{{{putchar(1", "-1", "", "", ");}}}}}}}}}}"], 485),
-        // Main, its block, 497 headers and the empty statement.
-        (["", "if(1)", ";", "", ""], 497),
-        (["", "while(1)", ";", "", ""], 497),
-        (["", "if(1);else ", ";", "", ""], 497),
-        // Main, its block, the loop, 496 operators and the constant.
-        (["while(", "~", "1", "", ");"], 496),
-        // Main has seven tokens of its own.
-        (["", ";", "", "", ""], 999_993),
-        // Main has sixteen bytes of its own.
-        (["", " ", "", "", ""], 4_194_288),
-    ] {
-        assert!(rt;
-            is_most(alloc, IN_MAIN, parts, most)?,
-            "{most} of {}",
-            parts[1]
-        );
-    }
-    Ok(())
-}
-
-/// 1,000 variables are read, and one more is not.
-#[test]
-fn variables(rt: HostRuntime) -> Result<(), Fail> {
-    let alloc = rt.alloc();
-    for (count, want) in [(1000, true), (1001, false)] {
-        let mut text = String::from_str(alloc, "int main(void){")?;
-        for k in 0..count {
-            write!(&mut text, "int a{k};")?;
-        }
-        text.push_str("}")?;
-        assert_eq!(rt; is_read(alloc, text.as_str())?, want, "{count}");
-    }
-    Ok(())
-}
-
-/// However many unary operators stand in a row, no more levels are read.
-#[test]
-fn many_operators(rt: HostRuntime) -> Result<(), Fail> {
-    let alloc = rt.alloc();
-    let text = nested(alloc, IN_MAIN, ["int x=", "~", "1", "", ";"], 900_000)?;
-    assert!(rt; !is_read(alloc, text.as_str())?);
     Ok(())
 }

@@ -2,9 +2,6 @@
 
 use super::*;
 
-/// What stands round a function's body.
-const IN_FUNCTION: [&str; 2] = ["void f(int*p){", "}int main(void){}"];
-
 /// Functions before main, with the elements of a parameter. A parameter is object 0 of its function (C99 6.9.1).
 #[test]
 fn functions(rt: HostRuntime) -> Result<(), Fail> {
@@ -60,7 +57,7 @@ fn calls(rt: HostRuntime) -> Result<(), Fail> {
     Ok(())
 }
 
-/// What a function's body may not be.
+/// What the whole language has in a function's body and the small one hasn't.
 #[test]
 fn no_bodies(rt: HostRuntime) -> Result<(), Fail> {
     let alloc = rt.alloc();
@@ -72,34 +69,39 @@ fn no_bodies(rt: HostRuntime) -> Result<(), Fail> {
         "int x=*p;",
         "*p=1;",
         "int p;",
-        "p[]=1;",
         "p[0];",
-        "p[0]=;",
         "p[0]+=1;",
+        "p[0]++;",
         "p(0)=1;",
-        "p[0=1;",
         "p[0][0]=1;",
-        "(p)[0]=1;",
-        "int x=(p)[0];",
+        "(p+1)[0]=1;",
         "int x=0[p];",
         "int x;x[0]=1;",
         "int x;int y=x[0];",
         "q[0]=1;",
+        "int*q;",
         "putchar(1);",
         "if(1)putchar(p[0]);",
+        "return;",
         "return 1;",
         "{return p[0];}",
+        "{int x;}",
         "e(&p);",
+        "e(p);",
         "int x;e(&x);",
         "int x;f(&x);",
     ] {
         let text = format!(in alloc; "void e(int*p){{}}void f(int*p){{{body}}}int main(void){{}}")?;
         check(&rt, alloc, text.as_str(), "NotBuilt 1")?;
     }
+    for body in ["p[]=1;", "p[0]=;", "p[0=1;", "[0]=1;"] {
+        let text = format!(in alloc; "void e(int*p){{}}\nvoid f(int*p){{\n{body}}}int main(void){{}}")?;
+        check(&rt, alloc, text.as_str(), "Syntax 2")?;
+    }
     Ok(())
 }
 
-/// What a call in main may not be.
+/// What the whole language has of calls and the small one hasn't.
 #[test]
 fn no_calls(rt: HostRuntime) -> Result<(), Fail> {
     let alloc = rt.alloc();
@@ -112,105 +114,80 @@ fn no_calls(rt: HostRuntime) -> Result<(), Fail> {
         "f(&x);",
         "f(&f);",
         "int x;f(x);",
+        "int x;f(-x);",
         "int x;f(&1);",
+        "int x;f(&*&x);",
         "int x;f(&x,&x);",
         "int x;f();",
-        "int x;f(&x)",
-        "int x;f(&x);;else;",
+        "int x;f(&x),f(&x);",
         "int x;x=f(&x);",
         "int x;int y=f(&x);",
         "int x;f=x;",
         "int x;x=f;",
         "int x;main(&x);",
-        "int x;f(&(x));",
+        "int x;putchar(&x);",
         "f[0]=1;",
         "p[0]=1;",
     ] {
         let text = format!(in alloc; "void f(int*p){{}}int main(void){{{body}}}")?;
         check(&rt, alloc, text.as_str(), "NotBuilt 1")?;
     }
+    for body in ["int x;f(&x)", "int x;f(&x);;else;", "int x;(f)(&x);"] {
+        let text = format!(in alloc; "void f(int*p){{}}\nint main(void){{{body}}}")?;
+        check(&rt, alloc, text.as_str(), "Syntax 2")?;
+    }
     Ok(())
 }
 
-/// What a program's functions may not be.
+/// What the whole language has of functions and the small one hasn't.
 #[test]
 fn no_functions(rt: HostRuntime) -> Result<(), Fail> {
     let alloc = rt.alloc();
+    for functions in [
+        "void f(int*p){}void f(int*q){}",
+        "void main(int*p){}",
+        "void putchar(int*p){}",
+        "void f(int*printf){}",
+        "void f(int p){}",
+        "void f(int**p){}",
+        "void f(int*const p){}",
+        "void f(const int*p){}",
+        "void f(unsigned*p){}",
+        "void f(char*p){}",
+        "void f(int p[]){}",
+        "void f(int*p[2]){}",
+        "void f(int*p,int*q){}",
+        "void f(int*){}",
+        "void f(void){}",
+        "void f(){}",
+        "int f(int*p){}",
+        "void*f(int*p){}",
+        "static void f(int*p){}",
+        "void f(int*p);",
+        "void f(int*p);void f(int*p){}",
+        "int x;",
+        "int x;void f(int*p){}",
+        "void f(int*p){}const int x=1;",
+    ] {
+        let text = format!(in alloc; "{functions}int main(void){{}}")?;
+        check(&rt, alloc, text.as_str(), "NotBuilt 1")?;
+    }
     for text in [
         "void f(int*p){}",
         "int main(void){}void f(int*p){}",
         "int main(void){int x;f(&x);}void f(int*p){}",
-        "void f(int*p){}void f(int*q){}int main(void){}",
-        "void main(int*p){}int main(void){}",
-        "void putchar(int*p){}int main(void){}",
-        "void void(int*p){}int main(void){}",
-        "void f(int*int){}int main(void){}",
-        "void f(int*printf){}int main(void){}",
-        "void f(int p){}int main(void){}",
-        "void f(int**p){}int main(void){}",
-        "void f(int*p,int*q){}int main(void){}",
-        "void f(int*){}int main(void){}",
-        "void f(void){}int main(void){}",
-        "void f(){}int main(void){}",
-        "int f(int*p){}int main(void){}",
-        "void f(int*p);int main(void){}",
-        "void f(int*p){};int main(void){}",
-        "void f(int*p){int main(void){}",
-        "int x;int main(void){}",
-        "int main(void){}int main(void){}",
+        "void f(int*p);int main(void){int x;f(&x);}void f(int*p){}",
     ] {
         check(&rt, alloc, text, "NotBuilt 1")?;
     }
-    Ok(())
-}
-
-/// 200 open brackets and 500 levels are read in a function too, and one more is not.
-#[test]
-fn limits_of_functions(rt: HostRuntime) -> Result<(), Fail> {
-    let alloc = rt.alloc();
-    for (around, parts, most) in [
-        // The function's brace and 199 others.
-        (IN_FUNCTION, ["int x=", "p[", "0", "]", ";"], 199),
-        (IN_FUNCTION, ["p[", "p[", "0", "]", "]=1;"], 198),
-        // The function, its block, the declaration, ten elements, 486 operators and the constant.
-        (
-            IN_FUNCTION,
-            ["int x=p[p[p[p[p[p[p[p[p[p[", "~", "0", "", "]]]]]]]]]];"],
-            486,
-        ),
-        // The function, its block, the declaration, an operator, 165 elements with two operators each, and the constant.
-        (IN_FUNCTION, ["int x=~", "~~p[", "0", "]", ";"], 165),
-        // The function, its block, an assignment as a statement and as an expression, the element, 494 operators and the constant.
-        (IN_FUNCTION, ["p[", "~", "0", "", "]=1;"], 494),
-        // The function, its block, an assignment as a statement and as an expression, 495 operators and the constant.
-        (IN_FUNCTION, ["p[0]=", "~", "0", "", ";"], 495),
-        // Main, its block, 494 headers, a call as a statement and as an expression, the operator `&` and the variable.
-        (
-            ["void f(int*p){}int main(void){int x;", "}"],
-            ["", "if(1)", "f(&x);", "", ""],
-            494,
-        ),
+    for text in [
+        "void void(int*p){}int main(void){}",
+        "void f(int*int){}int main(void){}",
+        "void f(int*p){};int main(void){}",
+        "void f(int*p){int main(void){}",
+        "f(int*p){}int main(void){}",
     ] {
-        assert!(rt;
-            is_most(alloc, around, parts, most)?,
-            "{most} of {}",
-            parts[1]
-        );
-    }
-    Ok(())
-}
-
-/// A function has 1,000 variables beside its parameter, and no more.
-#[test]
-fn variables_of_functions(rt: HostRuntime) -> Result<(), Fail> {
-    let alloc = rt.alloc();
-    for (count, want) in [(1000, true), (1001, false)] {
-        let mut text = String::from_str(alloc, "void f(int*p){")?;
-        for k in 0..count {
-            write!(&mut text, "int a{k};")?;
-        }
-        text.push_str("}int main(void){int x;f(&x);}")?;
-        assert_eq!(rt; is_read(alloc, text.as_str())?, want, "{count}");
+        check(&rt, alloc, text, "Syntax 1")?;
     }
     Ok(())
 }

@@ -1,0 +1,12 @@
+pub mod BodyEntries
+pub mod Calls
+pub mod Entries
+pub mod Exits
+pub mod Keys
+pub mod Lists
+pub mod ProgramItems
+pub mod Rows
+pub mod TaskWords
+pub mod Words
+pub mod Parts
+pub mod Numbers
