@@ -31,7 +31,8 @@ mod words;
 pub use breach::Breach;
 pub use erasure::erase;
 pub use laws::{
-    erasing_keeps_newlines, erasing_twice_is_once, lines_have_pieces, one_lexing, pieces_are_unique,
+    erasing_keeps_newlines, erasing_takes_directives_alone, erasing_twice_is_once,
+    lines_have_pieces, one_lexing, pieces_are_unique,
 };
 pub use lexeme_class::LexemeClass;
 pub use lexing::lex;

@@ -2,6 +2,7 @@ pub mod BodyEntries
 pub mod Calls
 pub mod Entries
 pub mod Exits
+pub mod Headers
 pub mod Keys
 pub mod Lists
 pub mod ProgramItems

@@ -1,12 +1,12 @@
--- Functions, put together one by one before main, and the words of a task's directive.
-use Rattle.std.proofs.Common.{◌≡◌, ℕ, ◌+◌, ◌<◌, ◌≤◌, Bool, true, false, List, [], ◌∷◌, ◌++◌, map, length, drop, get_or, codes, Option, Some, None, option_map, bytes_eq, refl, sym, ap, ◌∙◌}
-use Rattle.std.proofs.lemmas.List.{drop_more, at_drop_all, append_assoc}
+-- Functions, put together one by one before main.
+use Rattle.std.proofs.Common.{◌≡◌, ℕ, ◌+◌, ◌<◌, ◌≤◌, List, [], ◌∷◌, ◌++◌, map, length, drop, get_or, Option, Some, None, option_map, refl, sym, ap, ◌∙◌}
+use Rattle.std.proofs.lemmas.List.{drop_more, at_drop_all, map-append}
 use Rattle.css_tree.specs.declared.item.Item.{Item}
 use Rattle.css_tree.specs.Syntax as syntax
 use Rattle.css_tree.specs.Shapes.{item}
 use Rattle.css_small.specs.declared.tree.Function as coded
 use Rattle.css_small.specs.Tree.{Function, Program, function}
-use Rattle.css_small.specs.Trees.{both, with_function, main_alone, function_behind, main_behind, program_behind}
+use Rattle.css_small.specs.Trees.{both, with_function, main_alone, function_behind, main_behind, program_behind, program_of}
 
 -- functions before a program's
 abbrev pub before : List Function → Program → Program
@@ -66,10 +66,11 @@ one_less all i x last names done below is none =
 pub all_done : (all : List Item) (i : ℕ) (last : syntax.Item) (names : List (List ℕ)) (done : List coded.Function) → length all ≤ i → on done (from all i last names) ≡ on done (program_behind names (last ∷ []))
 all_done all i last names done past = at_drop_all (λ l. on done (program_behind names (map item l ++ last ∷ []))) all i past
 
--- main alone
-pub main_last : (names : List (List ℕ)) (x : syntax.Item) (t : syntax.Function) (f : Function) → x ≡ syntax.Define t → main_behind names t ≡ Some f → program_behind names (x ∷ []) ≡ Some (main_alone f)
-main_last names x t f defines gives = ap (λ y. program_behind names (y ∷ [])) defines ∙ ap (option_map main_alone) gives
-
+-- what is no main
 pub no_main : (names : List (List ℕ)) (x : syntax.Item) → ((t : syntax.Function) → x ≡ syntax.Define t → main_behind names t ≡ None) → program_behind names (x ∷ []) ≡ None
 no_main names (syntax.Declare d) none = refl
 no_main names (syntax.Define t) none = ap (option_map main_alone) (none t refl)
+
+-- the last item apart
+pub last_apart : (items others : List Item) (last : Item) → items ≡ others ++ last ∷ [] → program_of (map item items) ≡ program_behind [] (map item others ++ item last ∷ [])
+last_apart items others last is = ap (λ l. program_of (map item l)) is ∙ ap program_of (map-append item others (last ∷ []))

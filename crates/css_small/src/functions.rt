@@ -3,9 +3,9 @@ ghost use Rattle.std.specs.Prelude.{◌≡◌, ℕ, List, [], ◌∷◌, ◌++�
 ghost use Rattle.css_base.specs.Tokens.{Word, Punctuator, kind_of, lexemes};
 ghost use Rattle.css_tree.specs.Syntax as syntax;
 ghost use Rattle.css_tree.specs.Shapes as shapes;
-ghost use Rattle.css_small.specs.Tree.{function, program};
+ghost use Rattle.css_small.specs.Tree.{Program as Whole, function, program};
 ghost use Rattle.css_small.specs.Trees as spec;
-ghost use Rattle.css_small.specs.Trees.{program_of, program_behind, function_behind, main_behind, is_void, is_void_alone, pointer_of, is_star, is_task_of, task_of, kinds_of};
+ghost use Rattle.css_small.specs.Trees.{program_of, program_behind, function_behind, main_behind, is_void, is_void_alone, pointer_of, is_empty, is_star, is_task_of, task_of, kinds_of};
 
 use crate::bodies::{body_of, is_int};
 use crate::name_set::NameSet;
@@ -37,7 +37,7 @@ fn functions_of(
     items: &[Item],
 ) -> Result<Vec<Function>, TreeFault>
     ensures ok { IfOk result (λ all. (last : syntax.Item) → program_behind names.old (map shapes.item items.now ++ last ∷ [])
-        ≡ option_map (λ p. record p { functions = map function all.items ++ p.functions }) (program_behind names.new (last ∷ []))) }
+        ≡ option_map {T = Whole} {U = Whole} (λ p. record p { functions = map function all.items ++ p.functions }) (program_behind names.new (last ∷ []))) }
     ensures not_small { IsErrOf result TreeFault.NotSmall
         → (last : syntax.Item) → program_behind names.old (map shapes.item items.now ++ last ∷ []) ≡ None }
 {
@@ -79,7 +79,7 @@ fn function_behind(alloc: Global, before: &mut NameSet, item: &Item) -> Result<F
     else {
         return Err(TreeFault::NotSmall);
     };
-    if !is_void(specifiers.as_slice()) || !stars.is_empty() {
+    if !is_void(specifiers.as_slice()) || !is_without_stars(stars.as_slice()) {
         return Err(TreeFault::NotSmall);
     }
     let Some(parameter) = pointer_of(parameters) else {
@@ -88,7 +88,8 @@ fn function_behind(alloc: Global, before: &mut NameSet, item: &Item) -> Result<F
     let Some(is_task) = is_task_of(parameter, directive) else {
         return Err(TreeFault::NotSmall);
     };
-    define(alloc, before, name.as_slice())?;
+    let name = name.as_slice();
+    define(alloc, before, name)?;
     let names = Names::in_function(alloc, parameter)?;
     with_body(alloc, is_task, *line, *end, 1, names, body)
 }
@@ -115,7 +116,7 @@ fn main_behind(alloc: Global, functions: NameSet, item: &Item) -> Result<Functio
     };
     if directive.is_some()
         || !is_int(specifiers.as_slice())
-        || !stars.is_empty()
+        || !is_without_stars(stars.as_slice())
         || name.as_slice() != b"main".as_slice()
         || !is_void_alone(parameters)
     {
@@ -181,13 +182,23 @@ fn pointer_of(parameters: &Parameters) -> Option<&[u8]>
     let [only] = all.as_slice() else {
         return None;
     };
-    if !is_int(only.specifiers.as_slice()) || !is_star(only.stars.as_slice()) || !only.dimensions.is_empty() {
+    if !is_int(only.specifiers.as_slice())
+        || !is_star(only.stars.as_slice())
+        || !only.dimensions.is_empty()
+    {
         return None;
     }
     match &only.name {
         Some(name) => Some(name.as_slice()),
         None => None,
     }
+}
+
+/// Whether there are no stars.
+fn is_without_stars(stars: &[Star]) -> bool
+    ensures { result ≡ is_empty (shapes.stars stars.now) }
+{
+    matches!(stars, [])
 }
 
 /// Whether there is one star, with no word behind it.
@@ -224,7 +235,11 @@ fn task_of(words: &[Token]) -> Option<&[u8]>
     let [first, second, opens, parameter, closes] = words else {
         return None;
     };
-    if is_word(first, b"task") && is_word(second, b"inout") && is_mark(opens, b"(") && is_mark(closes, b")") {
+    if is_word(first, b"task")
+        && is_word(second, b"inout")
+        && is_mark(opens, b"(")
+        && is_mark(closes, b")")
+    {
         word_of(parameter)
     } else {
         None

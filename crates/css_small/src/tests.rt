@@ -326,10 +326,16 @@ fn lexing(rt: HostRuntime) -> Result<(), Fail> {
     for (text, want) in [
         ("/* a */int/* b\n */main(void)// c\n{}", "1-3 0"),
         ("// int main(void){}\nint main(void){}//", "2-2 0"),
-        ("int main(void){int x=4/*\n*//2;}", "1:int v0=(Div 4 2) 1-2 1"),
+        (
+            "int main(void){int x=4/*\n*//2;}",
+            "1:int v0=(Div 4 2) 1-2 1",
+        ),
         ("in\\\nt main(vo\\\nid){\\\n}", "1-4 0"),
         ("int main(void){int x;\nx\\\ny=1;}", "NotBuilt 1"),
-        ("int main(void){int xy;\nx\\\ny=1;}", "1:int v0 2:v0=1 1-3 1"),
+        (
+            "int main(void){int xy;\nx\\\ny=1;}",
+            "1:int v0 2:v0=1 1-3 1",
+        ),
         (
             "#define N 3\nint main(void){int x=N;\nx=\nN;}",
             "2:int v0=3 3:v0=3 2-4 1",
@@ -351,7 +357,10 @@ fn lexing(rt: HostRuntime) -> Result<(), Fail> {
             "4-4 0",
         ),
         ("int main(void){int x=0x10;}", "1:int v0=16 1-1 1"),
-        ("int main(void){int x=0X7fffFFFF;}", "1:int v0=2147483647 1-1 1"),
+        (
+            "int main(void){int x=0X7fffFFFF;}",
+            "1:int v0=2147483647 1-1 1",
+        ),
         ("int main(void){int x=010;}", "1:int v0=8 1-1 1"),
         ("int main(void){int x=0;}", "1:int v0=0 1-1 1"),
         ("int main(void){putchar('a');}", "1:put 97 1-1 0"),

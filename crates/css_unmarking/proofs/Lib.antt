@@ -1,3 +1,13 @@
+pub mod Others
+pub mod OthersWords
+pub mod OthersExpressions
+pub mod OthersDeclarations
+pub mod OthersStatements
+pub mod OthersItems
+pub mod OthersBrackets
+pub mod OthersKeywords
+pub mod OthersAccepted
+pub mod Heights
 pub mod StringsApart
 pub mod StringsExpressions
 pub mod StringsPrograms

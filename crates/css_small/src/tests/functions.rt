@@ -95,7 +95,9 @@ fn no_bodies(rt: HostRuntime) -> Result<(), Fail> {
         check(&rt, alloc, text.as_str(), "NotBuilt 1")?;
     }
     for body in ["p[]=1;", "p[0]=;", "p[0=1;", "[0]=1;"] {
-        let text = format!(in alloc; "void e(int*p){{}}\nvoid f(int*p){{\n{body}}}int main(void){{}}")?;
+        let text = format!(in alloc;
+            "void e(int*p){{}}\nvoid f(int*p){{\n{body}}}int main(void){{}}"
+        )?;
         check(&rt, alloc, text.as_str(), "Syntax 2")?;
     }
     Ok(())

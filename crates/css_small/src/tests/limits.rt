@@ -52,7 +52,12 @@ fn check_most(
     assert_eq!(rt; last.as_str(), "read", "{most} of {}", parts[1]);
     let more = nested(alloc, around, parts, most.saturating_add(1))?;
     let more = verdict(alloc, more.as_str())?;
-    assert_eq!(rt; more.as_str(), broken, "{most} of {} and one more", parts[1]);
+    assert_eq!(rt;
+        more.as_str(),
+        broken,
+        "{most} of {} and one more",
+        parts[1]
+    );
     Ok(())
 }
 

@@ -38,5 +38,6 @@ returns-clause-ok c = λ ts start behind m front n.
       opens = n;
       reads_parameters = c.in_ok-parameters.ensures.ok;
       reads_body = c.in_ok-body.ensures.ok;
-      end_is = end_behind before.0 (lexemes tokens) (lexemes rest) before.1 (omega (arith, length-map tokens lexeme, length-map rest lexeme)) ∙ sym c.end_line.ensures;
+      end_is = end_behind before.0 (lexemes tokens) (lexemes rest) before.1
+          (omega (arith, length-map tokens lexeme, length-map rest lexeme, c.in_ok-parameters.ensures.shorter, c.in_ok-body.ensures.shorter)) ∙ sym c.end_line.ensures;
     })

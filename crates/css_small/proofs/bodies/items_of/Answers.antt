@@ -14,12 +14,12 @@ loop-entry-preserved c =
     let added : c.add.new.all.items ≡ done ++ s ∷ [] = c.in_ok-add.ensures.ok in
     record {
       items =
-        ap (λ l. on l (from all (i + 1) new)) added
-        ∙ one_more all i c.entry-item.result names new done s c.loop-entry-test.true c.entry-item.is found.ok found.behind
-        ∙ c.loop-entry.invariant.items;
+          ap (λ l. on l (from all (i + 1) new)) added
+          ∙ one_more all i c.entry-item.result names new done s c.loop-entry-test.true c.entry-item.is found.ok found.behind
+          ∙ c.loop-entry.invariant.items;
       behind =
-        ap (names_from all (i + 1)) found.behind ∙ names_next all i c.entry-item.result names c.loop-entry-test.true c.entry-item.is
-        ∙ c.loop-entry.invariant.behind;
+          ap (names_from all (i + 1)) found.behind ∙ names_next all i c.entry-item.result names c.loop-entry-test.true c.entry-item.is
+          ∙ c.loop-entry.invariant.behind;
     }
 
 pub returns-clause-ok : goal.returns-clause-ok

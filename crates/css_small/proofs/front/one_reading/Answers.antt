@@ -1,4 +1,4 @@
-use Rattle.std.proofs.Common.{◌≡◌, ℕ, List, Some, None, subst, sym, ◌∙◌}
+use Rattle.std.proofs.Common.{◌≡◌, ℕ, List, Some, subst, sym, ◌∙◌}
 use Rattle.css_base.specs.declared.static_fault.StaticFault.{StaticFault}
 use Rattle.css_base.specs.Tokens.{Lexeme}
 use Rattle.css_lex.specs.Lexing as lexing
@@ -76,4 +76,3 @@ pub returns-clause-apart : goal.returns-clause-apart
 returns-clause-apart c text =
     spelled_apart (record { tokens = c.one_lexing.ensures.tokens; faults = c.one_lexing.ensures.faults; apart = c.one_lexing.ensures.apart })
     (record { trees = c.one_tree.ensures; faults = c.one_refusal.ensures; apart = c.accepted_or_refused.ensures }) text
-

@@ -20,3 +20,9 @@ loop-item-preserved c = λ last.
 pub returns-clause-ok : goal.returns-clause-ok
 returns-clause-ok c = λ last.
     sym (c.loop-item.invariant last) ∙ all_done c.args.items.now c.loop-item.item-index last c.loop-item.names c.loop-item.all.items c.loop-item-test.false
+
+pub returns-in_err-function_behind-clause-not_small : goal.returns-in_err-function_behind-clause-not_small
+returns-in_err-function_behind-clause-not_small c = λ why last.
+    let none = c.in_err-function_behind.ensures.not_small (passed c.from_residual.result c.in_err-function_behind.field-0.0 c.from_residual.ensures.1 why) in
+    sym (c.loop-item.invariant last)
+    ∙ one_less c.args.items.now c.loop-item.item-index c.item-item.result last c.loop-item.names c.loop-item.all.items c.loop-item-test.true c.item-item.is none
