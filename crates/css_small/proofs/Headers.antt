@@ -1,7 +1,6 @@
 -- What a function is by its header.
 use Rattle.std.proofs.Common.{◌≡◌, ℕ, Bool, true, false, ◌&&◌, List, [], codes, Option, Some, None, option_and_then, bytes_eq, Result, Ok, Err, IfOk, refl, ap, ◌∙◌, subst}
 use Rattle.css_tree.specs.Syntax as syntax
-use Rattle.css_small.specs.Tree.{Function}
 use Rattle.css_small.specs.Names.{in_main, in_function, is_fresh, may_define}
 use Rattle.css_small.specs.Trees.{where_true, is_empty, is_none, is_int, is_void, is_void_alone, is_task_of, pointer_of, body_of, function_with, function_behind, main_behind}
 

@@ -1,8 +1,8 @@
-use Rattle.std.proofs.Common.{◌≡◌, List, [], ◌∷◌, ◌++◌, Option, Some, None, option_map, true, false, rules, sym, ap, ◌∙◌}
+use Rattle.std.proofs.Common.{◌≡◌, [], ◌∷◌, ◌++◌, Some, None, option_map, true, false, rules, sym, ap, ◌∙◌}
 use Rattle.css_tree.specs.Syntax as syntax
 use Rattle.css_tree.specs.Shapes as shapes
-use Rattle.css_small.specs.Names.{in_function, is_fresh, may_define}
-use Rattle.css_small.specs.Trees.{is_void, is_empty, pointer_of, is_task_of, body_of, function_behind}
+use Rattle.css_small.specs.Names.{in_function, may_define}
+use Rattle.css_small.specs.Trees.{is_void, is_empty, is_task_of, body_of, function_behind}
 use Rattle.css_small.proofs.Headers.{in_other_words, function_is, no_void, has_stars, of_item}
 use Rattle.css_small.proofs.functions.function_behind.Goals as goal
 use Rattle.css_small.proofs.functions.function_behind.Goals.{then-not-is_void-via-then-not-is_void, then-not-is_void-via-else-not-is_void+then-not-is_without_stars}

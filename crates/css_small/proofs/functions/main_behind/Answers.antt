@@ -1,7 +1,6 @@
 use Rattle.std.proofs.Common.{◌≡◌, codes, bytes_eq, option_map, true, false, rules, sym, ap, ◌∙◌}
 use Rattle.css_tree.specs.Syntax as syntax
 use Rattle.css_tree.specs.Shapes as shapes
-use Rattle.css_small.specs.Names.{in_main}
 use Rattle.css_small.specs.Trees.{is_none, is_int, is_empty, is_void_alone, body_of, main_behind}
 use Rattle.css_small.proofs.Headers.{in_other_words, main_is}
 use Rattle.css_small.proofs.functions.main_behind.Goals as goal

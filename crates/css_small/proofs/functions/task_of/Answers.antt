@@ -1,5 +1,5 @@
-use Rattle.std.proofs.Common.{◌≡◌, ℕ, ◌<◌, List, [], ◌∷◌, codes, Bool, true, false, IsTrue, ◌↔◌, Option, Some, None, IfNone, refl, sym, length, arith}
-use Rattle.css_base.specs.Tokens.{Word, Punctuator, kind_of}
+use Rattle.std.proofs.Common.{◌≡◌, codes, Bool, true, false, IsTrue, ◌↔◌, Option, Some, None, IfNone, refl, arith}
+use Rattle.css_base.specs.Tokens.{Word, Punctuator}
 use Rattle.css_small.proofs.TaskWords.{other_words, other_at, other_length}
 use Rattle.css_small.proofs.functions.task_of.Goals as goal
 use Rattle.css_small.proofs.functions.task_of.Goals.{else-is_word-via-then-is_word+then-is_word-2+then-is_mark+else-is_mark-2, else-is_word-via-then-is_word+then-is_word-2+else-is_mark, else-is_word-via-then-is_word+else-is_word-2, else-is_word-via-else-is_word}
