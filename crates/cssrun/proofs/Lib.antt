@@ -3,14 +3,12 @@ pub mod Turns
 pub mod Unmarked
 pub mod Parts
 pub mod Fuel
-pub mod Directives
-pub mod Shorter
 pub mod Words
+pub mod Commands
 pub mod Endings
 pub mod Runs
+pub mod TaskRuns
 pub mod OneAnswer
 pub mod Texts
-pub mod TaskRuns
-pub mod RunTexts
 pub mod Headlines
 pub mod Clauses

@@ -52,7 +52,7 @@ one_run_answer more_fuel limits p a b one other =
 abbrev pub IsRunStatus : ℕ → Type 0
 IsRunStatus status = (status ≤ 1) ⊎ ((4 ≤ status) × (status ≤ 5))
 
-ending_statuses : (ending : Ending) → IsRunStatus (ending_status ending)
+pub ending_statuses : (ending : Ending) → IsRunStatus (ending_status ending)
 ending_statuses (endings.Result (pos zero)) = inl (omega arith)
 ending_statuses (endings.Result (pos (suc n))) = inl (omega arith)
 ending_statuses (endings.Result (negsuc n)) = inl (omega arith)

@@ -1,21 +1,13 @@
 -- The one answer of a program's run with tasks, and how the run of its code gives it.
 use Rattle.std.proofs.Common.{◌≡◌, ℕ, ℤ, ◌⊎◌, inl, inr, List, [], Some, None, refl, sym, ap, ◌∙◌, subst}
 use Rattle.css_base.specs.declared.limits.Limits.{Limits}
-use Rattle.css_base.specs.declared.static_fault.StaticFault.{StaticFault}
-use Rattle.css_base.specs.declared.static_fault.StaticName.{StaticName}
-use Rattle.css_base.specs.declared.static_fault.StaticName.TheVariants as names
-use Rattle.css_base.specs.Tokens.{Lexeme}
 use Rattle.css_semantics.specs.Dialogue.{World, Outcome, Goes, Stops, Stopped, Tired}
 use Rattle.css_semantics.specs.Memory.{Memory}
 use Rattle.css_semantics.specs.Flat.{no_frames}
 use Rattle.css_semantics.specs.Verdict.{Verdict, verdict, judged_in}
-use Rattle.css_lex.specs.Lexing.{SpellsTokens, IsRefused}
 use Rattle.css_vm.specs.Code.{Routine, Shape, Code}
 use Rattle.css_small.specs.Tree.{Program}
-use Rattle.css_small.specs.Grammar.{IsProgram}
 use Rattle.css_small.specs.Numbers.{HasNumbers}
-use Rattle.css_small.proofs.Programs.{program_reads}
-use Rattle.css_small.proofs.Trees.{one_program_read}
 use Rattle.css_small_code.specs.Meaning.{source}
 use Rattle.css_small_code.specs.Correct.{Codes}
 use Rattle.css_small_code.specs.Tasks.{TasksTakePointers}
@@ -23,12 +15,10 @@ use Rattle.css_io.specs.Changes.{Change, Got, GotPrefix}
 use Rattle.css_main_side.specs.Plain.{IsPlain, HasPlainTasks}
 use Rattle.css_main_side.specs.Playing.{ComesToVerdict}
 use Rattle.css_main_side.proofs.Sinks.{AppendsPrefix-whole}
-use Rattle.cssrun.specs.Answer.{Answer, ending_line, ending_status, static_line, no_memory}
-use Rattle.cssrun.specs.RunAnswer.{IsRunText, IsOutsideRun, HasVerdict, IsTaskAnswer, IsRunTextAnswer, Refused, Ended}
+use Rattle.cssrun.specs.Answer.{Answer, HasVerdict, IsTaskAnswer, ending_line, ending_status, no_memory}
 use Rattle.cssrun.specs.Ends as ways
 use Rattle.cssrun.proofs.Endings.{ends_answer, ends_no_memory}
-use Rattle.cssrun.proofs.OneAnswer.{not_built}
-use Rattle.cssrun.proofs.Runs.{answer_of_parts, answer_from}
+use Rattle.cssrun.proofs.Runs.{IsRunStatus, ending_statuses, answer_of_parts, answer_from}
 
 -- ---- the verdict
 
@@ -50,6 +40,13 @@ one_task_answer only limits p a b one other =
     answer_of_parts a b (one.out_is ∙ ap (λ (v : Verdict). v.output) same ∙ sym other.out_is)
     (one.report_is ∙ ap (λ (v : Verdict). ending_line v.ending) same ∙ sym other.report_is)
     (one.status_is ∙ ap (λ (v : Verdict). ending_status v.ending) same ∙ sym other.status_is)
+
+-- a program that has a verdict has an answer, of the statuses of endings
+pub task_answer : (limits : Limits) (p : Program) (v : Verdict) → HasVerdict limits p v → (a : Answer) × IsTaskAnswer limits p a
+task_answer limits p v has = (verdict_answer v, verdict_answer-is limits p v has)
+
+pub task_answer_status : (limits : Limits) (p : Program) (a : Answer) → IsTaskAnswer limits p a → IsRunStatus a.status
+task_answer_status limits p a one = subst IsRunStatus (sym one.status_is) (ending_statuses one.v.ending)
 
 -- ---- the run of a program's code
 
@@ -86,50 +83,3 @@ module _ (only : OneVerdict) (limits : Limits) (p : Program) (v : Verdict) (has 
   task_ended out report status got (inr starved) =
       ends_no_memory (IsTaskAnswer limits p) out report status
       (task_prefix out (AppendsPrefix-whole out.before out.after v.output got)) starved
-
--- ---- texts
-
--- a text spells one list of tokens
-abbrev pub OneTokens : Type 0
-OneTokens = (text : List ℕ) (these those : List Lexeme) → SpellsTokens text these → SpellsTokens text those → these ≡ those
-
--- a text that is refused spells no tokens
-abbrev pub AreApart : Type 0
-AreApart = (text : List ℕ) (tokens : List Lexeme) (fault : StaticFault) → SpellsTokens text tokens → IsRefused text fault → ⊥
-
-pub refused_outside : AreApart → (text : List ℕ) (fault : StaticFault) → IsRefused text fault → IsOutsideRun text
-refused_outside apart text fault refused p (tokens, spells, is) = apart text tokens fault spells refused
-
-pub unspelled_outside : OneTokens → (text : List ℕ) (tokens : List Lexeme) → SpellsTokens text tokens → ((p : Program) → IsProgram tokens p → ⊥) → IsOutsideRun text
-unspelled_outside only text tokens spells none p (others, also, is) = none p (subst (λ ts. IsProgram ts p) (only text others tokens also spells) is)
-
--- a text spells one program
-pub one_run_text : OneTokens → (text : List ℕ) (p q : Program) → IsRunText text p → IsRunText text q → p ≡ q
-one_run_text only text p q (these, spells, is) (those, also, other) =
-    let there = subst (λ ts. IsProgram ts q) (only text those these also spells) other in
-    one_program_read p q (program_reads is.spells) (program_reads there.spells)
-
--- a text that spells a program has the answer of its run
-pub task_answer_of : OneTokens → (limits : Limits) (text : List ℕ) (p : Program) → IsRunText text p → (a : Answer) → IsRunTextAnswer limits text a → IsTaskAnswer limits p a
-task_answer_of only limits text p spells a (Refused not is) = absurd (not p spells)
-task_answer_of only limits text p spells a (Ended q also run) = subst (λ x. IsTaskAnswer limits x a) (one_run_text only text q p also spells) run
-
-pub run_not_built_is : (limits : Limits) (text : List ℕ) → IsOutsideRun text → (a : Answer) → IsRunTextAnswer limits text a → a ≡ not_built
-run_not_built_is limits text not a (Refused also is) = is
-run_not_built_is limits text not a (Ended p spells run) = absurd (not p spells)
-
--- a text has one answer
-pub one_run_text_answer : OneTokens → OneVerdict → (limits : Limits) (text : List ℕ) (a b : Answer) → IsRunTextAnswer limits text a → IsRunTextAnswer limits text b → a ≡ b
-one_run_text_answer tokens only limits text a b (Refused not is) other = is ∙ sym (run_not_built_is limits text not b other)
-one_run_text_answer tokens only limits text a b (Ended p spells run) other =
-    one_task_answer only limits p a b run (task_answer_of tokens limits text p spells b other)
-
--- a text that isn't of the part that is built is refused, or there is no memory for the line
-pub run_text_refused : (limits : Limits) (text : List ℕ) (name : StaticName) (line : ℕ) (out report : Change) (status : ℕ) → name ≡ names.NotBuilt → line ≡ 1 → IsOutsideRun text
-    → Got out [] → ((bytes : List ℕ) → GotPrefix out bytes) → ways.Finishes report (static_line name line) 3 status ⊎ ways.Finishes report no_memory 8 status → ways.Ends (IsRunTextAnswer limits text) out report status
-run_text_refused limits text name line out report status is_name is_line not got nothing (inl finishes) =
-    let named = subst (λ n. ways.Finishes report (static_line n line) 3 status) is_name finishes in
-    ends_answer (IsRunTextAnswer limits text) out report status not_built (Refused not refl) (run_not_built_is limits text not) got
-    (subst (λ l. ways.Finishes report (static_line names.NotBuilt l) 3 status) is_line named)
-run_text_refused limits text name line out report status is_name is_line not got nothing (inr starved) =
-    ends_no_memory (IsRunTextAnswer limits text) out report status (λ a one. nothing a.out) starved

@@ -1,6 +1,7 @@
 -- What the program answers: a definition for all words and files.
 use Rattle.std.specs.Prelude.{◌≡◌, ℕ, zero, ℤ, pos, ◌≤◌, ◌<◌, ◌⊎◌, List, [], ◌++◌, length, codes, Option, Some, None}
 use Rattle.std.specs.Fmt.{decimal, signed_decimal}
+use Rattle.css_base.specs.declared.static_fault.StaticFault.{StaticFault}
 use Rattle.css_base.specs.declared.static_fault.StaticName.{StaticName}
 use Rattle.css_base.specs.declared.static_fault.StaticName.TheVariants as names
 use Rattle.css_base.specs.declared.ending.Ending.{Ending}
@@ -12,13 +13,17 @@ use Rattle.css_base.specs.declared.ending.Who.TheVariants as whose
 use Rattle.css_base.specs.declared.limits.Limits.{Limits}
 use Rattle.css_base.specs.Labels.{static_label, rule_label, fault_label}
 use Rattle.css_semantics.specs.Dialogue.{Outcome, Goes, Stops, Stopped, Tired, tape_of, output}
-use Rattle.css_semantics.specs.Flat.{flat}
+use Rattle.css_semantics.specs.Flat.{no_frames, flat}
+use Rattle.css_semantics.specs.Verdict.{Verdict, verdict, judged_in}
+use Rattle.css_lex.specs.Lexing.{longest_text}
 use Rattle.css_lex.specs.Lines.{erased}
 use Rattle.css_small.specs.Tree.{Program}
-use Rattle.css_small.specs.Grammar.{Spells, IsNotBuilt}
+use Rattle.css_small.specs.Texts.{Spells, IsRefused}
 use Rattle.css_small_code.specs.Meaning.{source}
+use Rattle.css_words.specs.declared.command.Command.{Command}
+use Rattle.css_words.specs.declared.command.Command.TheVariants.{Check, Erased, Run}
 use Rattle.css_words.specs.declared.request.Request.{Request}
-use Rattle.cssrun.specs.Request.{Asks, AreRefused}
+use Rattle.cssrun.specs.Request.{Offer, Asks, AreRefused}
 
 -- The bytes of standard output and of the report, and the status.
 pub record Answer : Type 0 where
@@ -76,25 +81,62 @@ pub record Runs (limits : Limits) (p : Program) (out : List ℕ) (ending : Endin
   pub ending_is : ending_of (source (flat limits.memory limits.main_units) fuel p) ≡ Some ending
   pub out_is : out ≡ output (tape_of (source (flat limits.memory limits.main_units) fuel p))
 
--- The answer of a program's run.
+-- ---- what each command gives
+
+-- The answer of a program's run without tasks.
 pub record IsRunAnswer (limits : Limits) (p : Program) (a : Answer) : Type 0 where
   pub ending : Ending
   pub runs : Runs limits p a.out ending
   pub report_is : a.report ≡ ending_line ending
   pub status_is : a.status ≡ ending_status ending
 
--- A text isn't of the part of the language that is built: it is longer than 4,194,304 bytes, or spells no program without its
--- directives.
-abbrev pub IsOutside : List ℕ → Type 0
-IsOutside text = (4194304 < length text) ⊎ IsNotBuilt (erased text)
+-- The verdict on a program under the rules and with these limits. More fuel than is enough changes nothing.
+abbrev pub HasVerdict : Limits → Program → Verdict → Type 0
+HasVerdict limits p v = (fuel : ℕ) × (verdict (no_frames limits.memory) (source (judged_in limits) fuel p) ≡ Some v)
 
--- The answer to a text: S0 with line 1 where it isn't of the part of the language that is built, and else what its run without its
--- directives gives.
-pub data IsTextAnswer (limits : Limits) (text : List ℕ) (a : Answer) : Type 0 where
-  Refused : IsOutside text → a ≡ record { out = []; report = static_line names.NotBuilt 1; status = 3 } → IsTextAnswer limits text a
-  Ended : (p : Program) → length text ≤ 4194304 → Spells (erased text) p → IsRunAnswer limits p a → IsTextAnswer limits text a
+-- The answer of a program's run with its tasks: its verdict's output and ending.
+pub record IsTaskAnswer (limits : Limits) (p : Program) (a : Answer) : Type 0 where
+  pub v : Verdict
+  pub has : HasVerdict limits p v
+  pub out_is : a.out ≡ v.output
+  pub report_is : a.report ≡ ending_line v.ending
+  pub status_is : a.status ≡ ending_status v.ending
 
--- The answer to words, where the file that they name has this text.
-pub data IsAnswer (words : List (List ℕ)) (text : List ℕ) (a : Answer) : Type 0 where
-  WordsRefused : AreRefused words → a ≡ record { out = []; report = words_refused; status = 2 } → IsAnswer words text a
-  Asked : (request : Request) → Asks words request → IsTextAnswer request.limits text a → IsAnswer words text a
+-- The text is accepted.
+abbrev pub accepted : Answer
+accepted = record { out = []; report = codes "accepted\n"; status = 0 }
+
+-- What a command gives for a text that spells a program: `check` and `run` take it as it is, `erased` without its directives.
+abbrev pub IsProgramAnswer : Command → Limits → List ℕ → Answer → Type 0
+IsProgramAnswer Check limits text a = (p : Program) × Spells text p × (a ≡ accepted)
+IsProgramAnswer Erased limits text a = (p : Program) × (length text ≤ longest_text) × Spells (erased text) p × IsRunAnswer limits p a
+IsProgramAnswer Run limits text a = (p : Program) × Spells text p × IsTaskAnswer limits p a
+IsProgramAnswer command limits text a = ⊥
+
+-- ---- refusals
+
+-- S1 with line 1
+abbrev pub too_long : StaticFault
+too_long = record { name = names.TooLong; line = 1 }
+
+-- How a command refuses a text: `erased` by the length of the text, and else as the text without its directives is refused.
+abbrev pub IsRefusedBy : Command → List ℕ → StaticFault → Type 0
+IsRefusedBy Erased text fault =
+    ((longest_text < length text) × (fault ≡ too_long)) ⊎ ((length text ≤ longest_text) × IsRefused (erased text) fault)
+IsRefusedBy command text fault = IsRefused text fault
+
+-- the answer to a text that is refused with a fault
+abbrev pub refusal : StaticFault → Answer
+refusal fault = record { out = []; report = static_line fault.name fault.line; status = 3 }
+
+-- ---- answers
+
+-- The answer to a text.
+pub data IsTextAnswer (request : Request) (text : List ℕ) (a : Answer) : Type 0 where
+  Refused : (fault : StaticFault) → IsRefusedBy request.command text fault → a ≡ refusal fault → IsTextAnswer request text a
+  Given : IsProgramAnswer request.command request.limits text a → IsTextAnswer request text a
+
+-- The answer to words, where the file that they name has this text, of what is offered.
+pub data IsAnswer (offer : Offer) (words : List (List ℕ)) (text : List ℕ) (a : Answer) : Type 0 where
+  WordsRefused : AreRefused offer words → a ≡ record { out = []; report = words_refused; status = 2 } → IsAnswer offer words text a
+  Asked : (request : Request) → Asks offer words request → IsTextAnswer request text a → IsAnswer offer words text a

@@ -3,7 +3,7 @@ use Rattle.std.specs.Prelude.{◌≡◌, ℕ, ◌⊎◌, List, ◌++◌, Option,
 use Rattle.css_io.specs.Outside.{Rose}
 use Rattle.css_io.specs.Changes.{Change, HasFailed, Got, GotPrefix}
 use Rattle.css_words.specs.declared.request.Request.{Request}
-use Rattle.cssrun.specs.Request.{Asks}
+use Rattle.cssrun.specs.Request.{Offer, Asks}
 use Rattle.cssrun.specs.Answer.{Answer, IsAnswer, no_memory, read_fault}
 
 -- got a prefix of these bytes, and then exactly the line
@@ -29,49 +29,49 @@ pub data Finishes (c : Change) (line : List ℕ) (status result : ℕ) : Type 0 
   CutLine : result ≡ 7 → HasFailed c → GotPrefix c line → Finishes c line status result
 
 -- A text is that of the file that the words name, as far as the shelf tells it.
-abbrev pub IsText : List (List ℕ) → (List ℕ → Option (List ℕ)) → List ℕ → Type 0
-IsText words told text = (request : Request) → Asks words request → IfSome (told request.file) (λ bytes. text ≡ bytes)
+abbrev pub IsText : Offer → List (List ℕ) → (List ℕ → Option (List ℕ)) → List ℕ → Type 0
+IsText offer words told text = (request : Request) → Asks offer words request → IfSome (told request.file) (λ bytes. text ≡ bytes)
 
 -- The shelf's count for the file rose.
-pub record ShelfFailed (words : List (List ℕ)) (before after : List ℕ → ℕ) : Type 0 where
+pub record ShelfFailed (offer : Offer) (words : List (List ℕ)) (before after : List ℕ → ℕ) : Type 0 where
   pub request : Request
-  pub asks : Asks words request
+  pub asks : Asks offer words request
   pub rose : Rose (before request.file) (after request.file)
 
 -- All ways in which a call of the program ends.
-pub data PlainEnds (words : List (List ℕ)) (told : List ℕ → Option (List ℕ)) (before after : List ℕ → ℕ) (out report : Change) (status : ℕ) : Type 0 where
-  Answered : (text : List ℕ) → IsText words told text → Ends (IsAnswer words text) out report status → PlainEnds words told before after out report status
-  Unread : ShelfFailed words before after → out.after ≡ out.before → Finishes report read_fault 6 status → PlainEnds words told before after out report status
-  Unheard : out.after ≡ out.before → Finishes report no_memory 8 status → PlainEnds words told before after out report status
+pub data CallEnds (offer : Offer) (words : List (List ℕ)) (told : List ℕ → Option (List ℕ)) (before after : List ℕ → ℕ) (out report : Change) (status : ℕ) : Type 0 where
+  Answered : (text : List ℕ) → IsText offer words told text → Ends (IsAnswer offer words text) out report status → CallEnds offer words told before after out report status
+  Unread : ShelfFailed offer words before after → out.after ≡ out.before → Finishes report read_fault 6 status → CallEnds offer words told before after out report status
+  Unheard : out.after ≡ out.before → Finishes report no_memory 8 status → CallEnds offer words told before after out report status
 
 -- Cut short by a sink: each sink got a prefix of what the answer has, the report perhaps then a prefix of the line for want of
 -- memory; or the file couldn't be read, and the report got a prefix of the line for that; or there was no memory to read the words,
 -- and the report got a prefix of the line for that.
-abbrev pub IsCutShort : List (List ℕ) → (List ℕ → Option (List ℕ)) → (List ℕ → ℕ) → (List ℕ → ℕ) → Change → Change → Type 0
-IsCutShort words told before after out report =
-    ((text : List ℕ) × IsText words told text × ((a : Answer) → IsAnswer words text a → GotPrefix out a.out × GotPrefixAndPrefix report a.report no_memory))
-    ⊎ (ShelfFailed words before after × (out.after ≡ out.before) × GotPrefix report read_fault)
+abbrev pub IsCutShort : Offer → List (List ℕ) → (List ℕ → Option (List ℕ)) → (List ℕ → ℕ) → (List ℕ → ℕ) → Change → Change → Type 0
+IsCutShort offer words told before after out report =
+    ((text : List ℕ) × IsText offer words told text × ((a : Answer) → IsAnswer offer words text a → GotPrefix out a.out × GotPrefixAndPrefix report a.report no_memory))
+    ⊎ (ShelfFailed offer words before after × (out.after ≡ out.before) × GotPrefix report read_fault)
     ⊎ ((out.after ≡ out.before) × GotPrefix report no_memory)
 
 -- Cut short by want of memory: each sink got a prefix of what the answer has, and the report then the line for it; or there was no
 -- memory to read the words, the output got nothing, and the report the line alone.
-abbrev pub IsStarved : List (List ℕ) → (List ℕ → Option (List ℕ)) → Change → Change → Type 0
-IsStarved words told out report =
-    ((text : List ℕ) × IsText words told text × ((a : Answer) → IsAnswer words text a → GotPrefix out a.out × GotPrefixAnd report a.report no_memory))
+abbrev pub IsStarved : Offer → List (List ℕ) → (List ℕ → Option (List ℕ)) → Change → Change → Type 0
+IsStarved offer words told out report =
+    ((text : List ℕ) × IsText offer words told text × ((a : Answer) → IsAnswer offer words text a → GotPrefix out a.out × GotPrefixAnd report a.report no_memory))
     ⊎ ((out.after ≡ out.before) × Got report no_memory)
 
 -- The answer, whole.
-pub record IsWhole (words : List (List ℕ)) (told : List ℕ → Option (List ℕ)) (out report : Change) (status : ℕ) : Type 0 where
+pub record IsWhole (offer : Offer) (words : List (List ℕ)) (told : List ℕ → Option (List ℕ)) (out report : Change) (status : ℕ) : Type 0 where
   pub text : List ℕ
   pub answer : Answer
-  pub is_text : IsText words told text
-  pub is_answer : IsAnswer words text answer
+  pub is_text : IsText offer words told text
+  pub is_answer : IsAnswer offer words text answer
   pub status_is : status ≡ answer.status
   pub got_out : Got out answer.out
   pub got_report : Got report answer.report
 
 -- No count of faults rose.
-pub record IsSmooth (words : List (List ℕ)) (before after : List ℕ → ℕ) (out report : Change) : Type 0 where
-  pub no_shelf : ¬ ShelfFailed words before after
+pub record IsSmooth (offer : Offer) (words : List (List ℕ)) (before after : List ℕ → ℕ) (out report : Change) : Type 0 where
+  pub no_shelf : ¬ ShelfFailed offer words before after
   pub no_out : ¬ HasFailed out
   pub no_report : ¬ HasFailed report

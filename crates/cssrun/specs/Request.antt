@@ -1,39 +1,43 @@
 -- What the words of a command line ask for.
 use Rattle.std.specs.Prelude.{◌≡◌, ℕ, List, [], ◌∷◌}
 use Rattle.css_words.specs.declared.built.Built.{Built}
-use Rattle.css_words.specs.declared.command.Command.TheVariants.{Erased, Run}
+use Rattle.css_words.specs.declared.command.Command.{Command}
+use Rattle.css_words.specs.declared.command.Command.TheVariants.{Check, Erased, Run}
+use Rattle.css_words.specs.declared.options.OptionName.{OptionName}
 use Rattle.css_words.specs.declared.options.OptionName.TheVariants.{Memory, MainUnits, TaskUnits, LocalStore}
 use Rattle.css_words.specs.declared.request.Request.{Request}
 use Rattle.css_words.specs.Reading.{Reads}
 use Rattle.css_words.specs.Reading as reading
 
--- So much of the program is built: the command `erased`, and the options for main's memory and main's units.
-pub record IsBuilt (built : Built) : Type 0 where
-  pub commands : built.commands.now ≡ Erased ∷ []
-  pub options : built.options.now ≡ Memory ∷ MainUnits ∷ []
+-- The commands and options that a call of the program takes.
+pub record Offer : Type 0 where
+  pub commands : List Command
+  pub options : List OptionName
 
--- The words ask for this run with the pragmas erased.
-pub record Asks (words : List (List ℕ)) (request : Request) : Type 0 where
+abbrev pub offer_of : Built → Offer
+offer_of built = record { commands = built.commands.now; options = built.options.now }
+
+-- The commands that wait for nobody, as far as they are built, with the options for main's memory and main's units.
+abbrev pub plain : Offer
+plain = record { commands = Check ∷ Erased ∷ []; options = Memory ∷ MainUnits ∷ [] }
+
+-- All commands that are built: `run` too, with the options for a task's units and for the local store.
+abbrev pub whole : Offer
+whole = record { commands = Check ∷ Erased ∷ Run ∷ []; options = Memory ∷ MainUnits ∷ TaskUnits ∷ LocalStore ∷ [] }
+
+-- Of what is offered, the words ask for this.
+pub record Asks (offer : Offer) (words : List (List ℕ)) (request : Request) : Type 0 where
   pub built : Built
-  pub is_built : IsBuilt built
-  pub reads : Reads built words request
-  pub command_is : request.command ≡ Erased
-
--- The words ask for nothing that is built.
-abbrev pub AreRefused : List (List ℕ) → Type 0
-AreRefused words = (built : Built) → IsBuilt built → reading.AreRefused built words
-
--- So much of `run` is built: it, and the options for main's memory, for the units of main and of a task, and for the local store.
-pub record IsRunBuilt (built : Built) : Type 0 where
-  pub commands : built.commands.now ≡ Run ∷ []
-  pub options : built.options.now ≡ Memory ∷ MainUnits ∷ TaskUnits ∷ LocalStore ∷ []
-
--- The words ask for this run with its tasks.
-pub record AsksRun (words : List (List ℕ)) (request : Request) : Type 0 where
-  pub built : Built
-  pub is_built : IsRunBuilt built
+  pub is_offered : offer_of built ≡ offer
   pub reads : Reads built words request
 
--- The words don't ask for a run.
-abbrev pub AskNoRun : List (List ℕ) → Type 0
-AskNoRun words = (request : Request) → AsksRun words request → ⊥
+-- The words ask for nothing that is offered.
+abbrev pub AreRefused : Offer → List (List ℕ) → Type 0
+AreRefused offer words = (built : Built) → offer_of built ≡ offer → reading.AreRefused built words
+
+-- The commands that the program serves.
+abbrev pub IsServed : Command → Type 0
+IsServed Check = Unit {0}
+IsServed Erased = Unit {0}
+IsServed Run = Unit {0}
+IsServed command = ⊥

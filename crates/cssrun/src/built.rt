@@ -2,14 +2,14 @@
 use css_words::{Built, Command, OptionName};
 
 /// The commands and options that wait for nobody and that the program has so far. Words that ask for another are refused.
-pub const BUILT: Built<'static> = Built {
-    commands: &[Command::Erased],
+pub const PLAIN_BUILT: Built<'static> = Built {
+    commands: &[Command::Check, Command::Erased],
     options: &[OptionName::Memory, OptionName::MainUnits],
 };
 
-/// What of `run` there is.
-pub const RUN_BUILT: Built<'static> = Built {
-    commands: &[Command::Run],
+/// All commands and options that the program has so far.
+pub const BUILT: Built<'static> = Built {
+    commands: &[Command::Check, Command::Erased, Command::Run],
     options: &[
         OptionName::Memory,
         OptionName::MainUnits,

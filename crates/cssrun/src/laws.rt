@@ -1,26 +1,45 @@
 //! Laws of the answer.
 ghost use Rattle.std.specs.Prelude.{◌≡◌, ◌≤◌, ℕ, List, length};
-ghost use Rattle.css_base.specs.declared.limits.Limits.{Limits};
-ghost use Rattle.css_small.specs.Tree.{Program};
+ghost use Rattle.css_lex.specs.Lexing.{longest_text};
 ghost use Rattle.css_lex.specs.Lines.{erased};
-ghost use Rattle.css_small.specs.Grammar.{Spells};
+ghost use Rattle.css_small.specs.Tree.{Program};
+ghost use Rattle.css_small.specs.Texts.{Spells};
+ghost use Rattle.css_words.specs.declared.command.Command.TheVariants.{Check, Erased, Run};
+ghost use Rattle.css_words.specs.declared.request.Request.{Request};
 ghost use Rattle.cssrun.specs.Answer.{Answer, IsAnswer, IsTextAnswer};
+ghost use Rattle.cssrun.specs.Request.{Offer};
 
-use css_small::{numbers_fit, one_program};
-use css_small_code::{enough_fuel, more_fuel};
+use css_small::{numbers_fit, one_reading};
+use css_small_code::{enough_fuel, more_fuel, one_verdict, program_has_verdict};
 
-/// Words and a text have at most one answer.
-pub fn one_answer()
-    ensures { (words : List (List ℕ)) (text : List ℕ) (a b : Answer) → IsAnswer words text a → IsAnswer words text b → a ≡ b }
+/// A request and a text have at most one answer: one status, and the bytes of output and report.
+pub fn one_text_answer()
+    ensures { (request : Request) (text : List ℕ) (a b : Answer) → IsTextAnswer request text a → IsTextAnswer request text b → a ≡ b }
 {
-    one_program();
+    one_reading();
     more_fuel();
+    one_verdict();
 }
 
-/// A text that spells a program without its directives has an answer, whatever the program's run may use.
-pub fn programs_have_answers()
-    ensures { (limits : Limits) (text : List ℕ) (p : Program) → length text ≤ 4194304 → Spells (erased text) p → (a : Answer) × IsTextAnswer limits text a }
+/// Words and a text have at most one answer, whatever is offered.
+pub fn one_answer()
+    ensures { (offer : Offer) (words : List (List ℕ)) (text : List ℕ) (a b : Answer)
+        → IsAnswer offer words text a → IsAnswer offer words text b → a ≡ b }
 {
-    enough_fuel();
+    one_text_answer();
+}
+
+/// A text that spells a program has an answer to each command, whatever the program's run may use: for `erased` the text without its
+/// directives, where the text isn't too long.
+pub fn programs_have_answers()
+    ensures check { (request : Request) (text : List ℕ) (p : Program) → request.command ≡ Check → Spells text p
+        → (a : Answer) × IsTextAnswer request text a }
+    ensures erased { (request : Request) (text : List ℕ) (p : Program) → request.command ≡ Erased → length text ≤ longest_text
+        → Spells (erased text) p → (a : Answer) × IsTextAnswer request text a }
+    ensures run { (request : Request) (text : List ℕ) (p : Program) → request.command ≡ Run → Spells text p
+        → (a : Answer) × IsTextAnswer request text a }
+{
     numbers_fit();
+    enough_fuel();
+    program_has_verdict();
 }

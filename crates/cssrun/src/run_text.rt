@@ -1,25 +1,26 @@
 //! Runs of programs with tasks, in program order.
-ghost use Rattle.std.specs.Prelude.{◌≡◌, ℕ, List};
+ghost use Rattle.std.specs.Prelude.{◌≡◌};
 ghost use Rattle.css_base.specs.Limits.{IsInRange};
 ghost use Rattle.css_small.specs.Tree.{program};
 ghost use Rattle.css_small.specs.Numbers.{HasNumbers};
 ghost use Rattle.css_io.specs.Changes.{change};
-ghost use Rattle.cssrun.specs.RunAnswer.{IsTaskAnswer, IsRunTextAnswer};
+ghost use Rattle.css_words.specs.declared.command.Command.TheVariants.{Run};
+ghost use Rattle.css_words.specs.declared.request.Request.{Request};
+ghost use Rattle.cssrun.specs.Answer.{IsTaskAnswer, IsTextAnswer};
 ghost use Rattle.cssrun.specs.Ends.{Ends};
 
-use crate::finish::{NO_MEMORY, WRITE_FAULT_STATUS, finish};
-use crate::top::{NO_MEMORY_STATUS, end, not_built, refuse};
+use crate::finish::{NO_MEMORY, NO_MEMORY_STATUS, WRITE_FAULT_STATUS, end, finish, refuse};
+use crate::laws::one_text_answer;
 use css_base::{FrontFault, Limits};
 use css_io::Sink;
-use css_lex::{lex, one_lexing};
 use css_main_side::{Ran, play};
-use css_small::{Program, Unspelled, parse_program};
+use css_small::{Program, numbers_fit, one_reading, read_program};
 use css_small_code::{make_code, one_verdict, program_has_verdict};
 use css_yard::InOrder;
 use std::alloc::Global;
 
-/// Runs the program of a text with its tasks, each at its call. Of the text no more than one byte past the limit need be there.
-pub fn run_text<O: Sink, R: Sink>(
+/// Runs the program of a text with its tasks, each at its call.
+pub(crate) fn run_text<O: Sink, R: Sink>(
     alloc: Global,
     text: &[u8],
     limits: Limits,
@@ -27,19 +28,19 @@ pub fn run_text<O: Sink, R: Sink>(
     report: &mut R,
 ) -> u8
     requires { IsInRange limits }
-    ensures { Ends (IsRunTextAnswer limits text.now) (change O.written O.faults out.old out.new) (change R.written R.faults report.old report.new) result }
+    ensures { (request : Request) → request.command ≡ Run → request.limits ≡ limits
+        → Ends (IsTextAnswer request text.now) (change O.written O.faults out.old out.new) (change R.written R.faults report.old report.new) result }
 {
-    // What spells a program isn't refused by the lexer, and spells no other.
-    one_lexing();
-    let tokens = match lex(alloc, text) {
-        Ok(tokens) => tokens,
-        Err(FrontFault::Static(_)) => return refuse(alloc, &not_built(), report),
-        Err(FrontFault::NoMemory) => return finish(report, NO_MEMORY, NO_MEMORY_STATUS),
-    };
-    match parse_program(alloc, tokens.as_slice()) {
-        Ok(tree) => run_tasks(alloc, &tree, limits, out, report),
-        Err(Unspelled::NotSpelled) => refuse(alloc, &not_built(), report),
-        Err(Unspelled::NoMemory) => finish(report, NO_MEMORY, NO_MEMORY_STATUS),
+    // The text's answer is that of the program which is read, since the text spells no other.
+    one_reading();
+    one_text_answer();
+    match read_program(alloc, text) {
+        Ok(tree) => {
+            numbers_fit();
+            run_tasks(alloc, &tree, limits, out, report)
+        }
+        Err(FrontFault::Static(fault)) => refuse(alloc, &fault, report),
+        Err(FrontFault::NoMemory) => finish(report, NO_MEMORY, NO_MEMORY_STATUS),
     }
 }
 

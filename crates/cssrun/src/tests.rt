@@ -1,11 +1,13 @@
 //! Calls of the program over files, input and sinks in memory.
 ghost use Rattle.std.specs.Prelude.{◌≤◌};
 
+use crate::plain_top::plain_top;
 use crate::run::run_main;
-use crate::top::plain_top;
-use crate::whole::top;
+use crate::top::top;
 use css_base::{Ending, Limits, Line, Rule, Stop, Who, Words};
+use css_erasing::erased_texts_have_no_directives;
 use css_io::{MemShelf, MemSink, MemSource, OpenGate, read_all};
+use css_lex::erase;
 use css_main_side::Ran;
 use css_small::{numbers_fit, read_program};
 use css_small_code::make_code;
@@ -29,6 +31,13 @@ const DIVIDES_BY_ZERO: &str = "int main(void) { putchar(97); return 1 / 0; }";
 
 const DIVIDES_IN_LINE_3: &str =
     "int main(void) {\n  int x = 0; putchar(97);\n  putchar(98 % x);\n  return 0;\n}";
+
+const COMMENTS_AND_MACROS: &str =
+    "#define LAST 3 /* turns */\nint main(void) { // counts\n  int i = 0;\n  while (i < LAST) { putchar('a' + i); i = i + 1; }\n  return LAST - i;\n}\n";
+
+/// A task's directive and its body have words from macros, and there is a comment in a directive's line.
+const TASK_BY_MACROS: &str =
+    "#define KIND inout\n#define ONE 1\n#pragma css task KIND(p)\nvoid inc(int *p) { p[0] = p[0] + ONE; }\nint main(void) {\n  int x = 4;\n  #pragma css start /* here */\n  inc(&x);\n  #pragma css barrier // wait\n  putchar('0' + x);\n  #pragma css finish\n  return 0;\n}\n";
 
 /// The sinks' bytes and the status of a call.
 #[derive(Drop)]
@@ -161,7 +170,7 @@ fn texts_are_answered(rt: HostRuntime) -> Result<(), Fail> {
         (
             "int main(void) { return 0 }",
             "",
-            "static S0 NotBuilt line 1\n",
+            "static S5 Syntax line 1\n",
             3,
         ),
         ("", "", "static S0 NotBuilt line 1\n", 3),
@@ -206,6 +215,14 @@ fn tasks_run_in_order(rt: HostRuntime) -> Result<(), Fail> {
             "static S0 NotBuilt line 1\n",
             3,
         ),
+        (
+            "run",
+            "int main(void) { return 0 }",
+            "",
+            "static S5 Syntax line 1\n",
+            3,
+        ),
+        ("check", outside, "", "accepted\n", 0),
         ("erased", waiting, "5", "result 0\n", 0),
         ("erased", outside, "4", "result 0\n", 0),
         ("sim", waiting, "", "words refused\n", 2),
@@ -279,7 +296,7 @@ fn control_goes_on(rt: HostRuntime) -> Result<(), Fail> {
         (
             "int main(void) { else putchar(97); return 0; }",
             "",
-            "static S0 NotBuilt line 1\n",
+            "static S5 Syntax line 1\n",
             3,
         ),
     ];
@@ -320,8 +337,8 @@ fn tasks_are_functions(rt: HostRuntime) -> Result<(), Fail> {
         (
             "#include <stdio.h>\nint main(void) { }",
             "",
-            "static S0 NotBuilt line 1\n",
-            3,
+            "result 0\n",
+            0,
         ),
     ];
     for (text, out, report, status) in rows {
@@ -355,16 +372,18 @@ fn calls_take_units(rt: HostRuntime) -> Result<(), Fail> {
 /// Runs a program's main with so many units, and sees what it writes and how it ends.
 fn expect_ending(
     rt: &(impl Abort + AllocGlobal),
-    text: &str,
+    text: &[u8],
     units: u64,
     written: &str,
     ending: Ending,
 ) -> Result<(), Fail> {
     let alloc = rt.alloc();
-    let Ok(tree) = read_program(alloc, text.as_bytes()) else {
+    let left = erase(alloc, text)?;
+    let Ok(tree) = read_program(alloc, left.as_slice()) else {
         panic!(rt; "it isn't read");
     };
     numbers_fit();
+    erased_texts_have_no_directives();
     let code = make_code(alloc, &tree)?;
     let mut out = MemSink::new(alloc, 64, Vec::new(alloc))?;
     let ran = run_main(alloc, &code, Limits::DEFAULT.memory, units, &mut out);
@@ -395,7 +414,7 @@ fn units_are_taken(rt: HostRuntime) -> Result<(), Fail> {
         (nested, 4, "21", no_units(4)),
     ];
     for (text, units, written, ending) in rows {
-        expect_ending(&rt, text, units, written, ending)?;
+        expect_ending(&rt, text.as_bytes(), units, written, ending)?;
     }
     Ok(())
 }
@@ -642,6 +661,156 @@ fn texts_have_a_longest(rt: HostRuntime) -> Result<(), Fail> {
     expect(&rt, &called, "a", "result 0\n", 0);
     text.push(b' ')?;
     let called = call(&rt, &words, ("f.c", text.as_slice()), &NOTHING_FAILS)?;
-    expect(&rt, &called, "", "static S0 NotBuilt line 1\n", 3);
+    expect(&rt, &called, "", "static S1 TooLong line 1\n", 3);
+    let words = ["cssrun", "check", "f.c"];
+    let called = call(&rt, &words, ("f.c", text.as_slice()), &NOTHING_FAILS)?;
+    expect(&rt, &called, "", "static S1 TooLong line 1\n", 3);
+    text.truncate(4_194_304);
+    let called = call(&rt, &words, ("f.c", text.as_slice()), &NOTHING_FAILS)?;
+    expect(&rt, &called, "", "accepted\n", 0);
+    Ok(())
+}
+
+/// `check` says of each text whether it is accepted, or else which static rule it breaks first, and where.
+#[test]
+fn texts_are_checked(rt: HostRuntime) -> Result<(), Fail> {
+    let rows = [
+        (PUT_A, "accepted\n", 0),
+        (INCREMENTS, "accepted\n", 0),
+        (COMMENTS_AND_MACROS, "accepted\n", 0),
+        (DIVIDES_BY_ZERO, "accepted\n", 0),
+        ("#include <stdio.h>\nint main(void) { }", "accepted\n", 0),
+        (
+            "int main(void) {\n  return 0; \x7f\n}",
+            "static S2 BadByte line 2\n",
+            3,
+        ),
+        (
+            "int main(void) {\n  return 0;\n}\n/* open",
+            "static S3 BadToken line 4\n",
+            3,
+        ),
+        ("int main(void) {\n  @\n}", "static S3 BadToken line 2\n", 3),
+        (
+            "\n#if 1\nint main(void) { return 0; }\n#endif\n",
+            "static S4 BadMacro line 2\n",
+            3,
+        ),
+        (
+            "int main(void) {\n\n  return 18446744073709551616;\n}",
+            "static S12 BadConstant line 3\n",
+            3,
+        ),
+        (
+            "int main(void) {\n  return 0\n  goto end;\n}",
+            "static S15 Unsupported line 3\n",
+            3,
+        ),
+        (
+            "void f(int *p) { p[0] = 1; }\nint main(void) {\n  return 0\n}",
+            "static S5 Syntax line 2\n",
+            3,
+        ),
+        ("", "static S0 NotBuilt line 1\n", 3),
+        (
+            "\nint main(void) { return x; }",
+            "static S0 NotBuilt line 1\n",
+            3,
+        ),
+        (
+            "int f(int a) { return a; }\nint main(void) { return f(1); }",
+            "static S0 NotBuilt line 1\n",
+            3,
+        ),
+        (
+            "int main(void) {\n#pragma css wait on(x)\n  return 0;\n}",
+            "static S0 NotBuilt line 1\n",
+            3,
+        ),
+    ];
+    for (text, report, status) in rows {
+        let words = ["cssrun", "check", "f.c"];
+        let called = call(&rt, &words, ("f.c", text.as_bytes()), &NOTHING_FAILS)?;
+        expect(&rt, &called, "", report, status);
+        let called = call_top(&rt, &words, text)?;
+        expect(&rt, &called, "", report, status);
+    }
+    Ok(())
+}
+
+/// Main's brace and 199 parentheses may be open, and one more is too deep.
+#[test]
+fn brackets_have_a_most(rt: HostRuntime) -> Result<(), Fail> {
+    let words = ["cssrun", "check", "f.c"];
+    let mut text = b"int main(void) {\n".to_vec(rt.alloc())?;
+    let front = text.len();
+    text.resize(front + 199, b'(')?;
+    let called = call(&rt, &words, ("f.c", text.as_slice()), &NOTHING_FAILS)?;
+    expect(&rt, &called, "", "static S5 Syntax line 1\n", 3);
+    text.push(b'(')?;
+    let called = call(&rt, &words, ("f.c", text.as_slice()), &NOTHING_FAILS)?;
+    expect(&rt, &called, "", "static S6 TooDeep line 2\n", 3);
+    Ok(())
+}
+
+/// What is in the directives alone is refused by `check` and `run`, and not by `erased`.
+#[test]
+fn erased_reads_no_directives(rt: HostRuntime) -> Result<(), Fail> {
+    let text = "int main(void) {\n#pragma css start @\n  putchar(97);\n  return 0;\n}\n";
+    let rows = [
+        ("check", "", "static S3 BadToken line 2\n", 3),
+        ("run", "", "static S3 BadToken line 2\n", 3),
+        ("erased", "a", "result 0\n", 0),
+    ];
+    for (command, out, report, status) in rows {
+        let called = call_top(&rt, &["cssrun", command, "f.c"], text)?;
+        expect(&rt, &called, out, report, status);
+    }
+    Ok(())
+}
+
+/// `check` takes the option for main's memory, and none of a run.
+#[test]
+fn checks_take_options(rt: HostRuntime) -> Result<(), Fail> {
+    let rows: [(&[&str], &str, u8); 4] = [
+        (
+            &["cssrun", "check", "--memory", "3000000", "f.c"],
+            "accepted\n",
+            0,
+        ),
+        (
+            &["cssrun", "check", "--memory=1", "f.c"],
+            "words refused\n",
+            2,
+        ),
+        (
+            &["cssrun", "check", "--main-units=5", "f.c"],
+            "words refused\n",
+            2,
+        ),
+        (&["cssrun", "check"], "words refused\n", 2),
+    ];
+    for (words, report, status) in rows {
+        let called = call(&rt, words, ("f.c", PUT_A.as_bytes()), &NOTHING_FAILS)?;
+        expect(&rt, &called, "", report, status);
+    }
+    Ok(())
+}
+
+/// Comments and macros, without directives and with a task.
+#[test]
+fn comments_and_macros_are_read(rt: HostRuntime) -> Result<(), Fail> {
+    let function_like = "#define DIGIT(n) 48\nint main(void) { return 0; }\n";
+    let rows = [
+        ("erased", COMMENTS_AND_MACROS, "abc", "result 0\n", 0),
+        ("run", COMMENTS_AND_MACROS, "abc", "result 0\n", 0),
+        ("erased", TASK_BY_MACROS, "5", "result 0\n", 0),
+        ("run", TASK_BY_MACROS, "5", "result 0\n", 0),
+        ("run", function_like, "", "static S4 BadMacro line 1\n", 3),
+    ];
+    for (command, text, out, report, status) in rows {
+        let called = call_top(&rt, &["cssrun", command, "f.c"], text)?;
+        expect(&rt, &called, out, report, status);
+    }
     Ok(())
 }

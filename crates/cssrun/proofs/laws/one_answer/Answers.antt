@@ -2,4 +2,4 @@ use Rattle.cssrun.proofs.OneAnswer.{one_answer_lem}
 use Rattle.cssrun.proofs.laws.one_answer.Goals as goal
 
 pub returns : goal.returns
-returns c = one_answer_lem c.one_program.ensures c.more_fuel.ensures
+returns c = one_answer_lem c.one_text_answer.ensures

@@ -2,7 +2,7 @@ use Rattle.css_vm.specs.Code.{code_of}
 use Rattle.css_small.specs.Tree.{program}
 use Rattle.css_io.specs.Changes.{change}
 use Rattle.css_main_side.proofs.Sinks.{AppendsPrefix-nothing}
-use Rattle.cssrun.specs.RunAnswer.{HasVerdict, IsTaskAnswer}
+use Rattle.cssrun.specs.Answer.{HasVerdict, IsTaskAnswer}
 use Rattle.cssrun.proofs.Endings.{ends_no_memory, ends_out_failed}
 use Rattle.cssrun.proofs.TaskRuns.{comes_to_verdict, plain_tasks, task_prefix, task_ended}
 use Rattle.cssrun.proofs.run_text.run_tasks.Goals as goal

@@ -5,7 +5,7 @@ use Rattle.css_io.specs.Changes.{change}
 use Rattle.cssrun.proofs.Endings.{ends_no_memory, ends_out_failed}
 use Rattle.cssrun.proofs.Runs.{known, run_prefix, run_ended}
 use Rattle.css_main_side.proofs.Sinks.{AppendsPrefix-nothing}
-use Rattle.cssrun.proofs.top.run_program.Goals as goal
+use Rattle.cssrun.proofs.erased_text.run_program.Goals as goal
 
 pub returns-in_default : goal.returns-in_default
 returns-in_default g c = ends_no_memory _ _ _ _ (λ a one. AppendsPrefix-nothing _ a.out) c.finish.ensures
