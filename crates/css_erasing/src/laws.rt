@@ -15,6 +15,8 @@ ghost use Rattle.css_erasing.specs.Unmarked.{unmarked};
 ghost use Rattle.css_erasing.specs.Plain.{plain, entries};
 ghost use Rattle.css_erasing.specs.Erased.{IsPassed, IsErased, Answers, IsSeen};
 
+use css_lex::erasing_twice_is_once;
+use css_small::one_reading;
 use css_unmarking::erased_texts_are_accepted;
 
 /// A program's dialogue under the rules is, up to the first fault or rule, that of the program without its directives in a flat memory
@@ -55,4 +57,14 @@ pub fn erased_texts_spell_the_unmarked()
     ensures { (text : List ℕ) (p : Program) → Spells text p → Spells (erased text) (unmarked p) }
 {
     erased_texts_are_accepted();
+}
+
+/// A text without its directives spells a program without directives.
+pub fn erased_texts_have_no_directives()
+    ensures { (text : List ℕ) (p : Program) → Spells (erased text) p → HasNoDirectives p }
+{
+    erasing_twice_is_once();
+    one_reading();
+    erased_texts_spell_the_unmarked();
+    unmarked_has_no_directives();
 }

@@ -61,7 +61,6 @@ pub(super) fn deep(alloc: Global, marked: bool) -> Result<Tree, Fail> {
         entries.push(Entry::Statement(inner))?;
         inner = Statement::While {
             line: Line::new(2),
-        end: Line::new(9),
             condition: number(1),
             body: Box::new(alloc, Statement::Block(block(alloc, marked, entries)?))?,
         };
@@ -128,6 +127,7 @@ fn function(
     Ok(Item::Function {
         directive,
         line: Line::new(2),
+        end: Line::new(9),
         specifiers: Vec::from_slice(alloc, &[Specifier::Static, Specifier::Void])?,
         stars: stars(alloc)?,
         name: bytes(alloc, "f")?,
