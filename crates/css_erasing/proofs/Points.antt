@@ -1,5 +1,5 @@
 -- Points of a dialogue, and images.
-use Rattle.std.proofs.Common.{◌≡◌, inl, inr, ℕ, ◌≤◌, ◌==◌, ℤ, Bool, true, false, Option, Some, None, All, if◌then◌else◌, [], ◌∷◌, ◌++◌, refl, sym, ap, ◌∙◌, subst, append_assoc}
+use Rattle.std.proofs.Common.{◌≡◌, inl, inr, ℕ, ◌≤◌, ◌==◌, ℤ, Bool, true, false, Option, Some, None, All, if◌then◌else◌, cond, List, [], ◌∷◌, ◌++◌, refl, sym, ap, ◌∙◌, subst, append_assoc}
 use Rattle.std.specs.Prelude.{find}
 use Rattle.std.proofs.lemmas.Bool.{eqb-true}
 use Rattle.std.proofs.lemmas.Option.{same_Some}
@@ -13,7 +13,6 @@ use Rattle.css_semantics.specs.Tasks.{is_started}
 use Rattle.css_semantics.specs.Pending.{Object, pending}
 use Rattle.css_semantics.specs.Verdict.{Image, bytes_of_window, images_by, images, Verdict, verdict, judged_in}
 use Rattle.css_small.specs.Tree.{Program}
-use Rattle.css_small.proofs.Marks.{find_passes}
 use Rattle.css_small_code.specs.Meaning.{source}
 use Rattle.css_small_code.specs.Fuel.{Extends}
 use Rattle.css_small_code.proofs.MoreFuel.{extends_source}
@@ -23,6 +22,15 @@ use Rattle.css_erasing.specs.Erased.{IsPassed, IsErased, IsImageOf, IsSeen}
 use Rattle.css_erasing.proofs.Tapes.{plain_append, same_memory}
 use Rattle.css_erasing.proofs.Programs.{erased_source}
 use Rattle.css_erasing.proofs.Verdicts.{grown}
+
+-- what a search finds passes its test
+find_passes : {X : Type 0} (test : X → Bool) (xs : List X) (x : X) → find test xs ≡ Some x → test x ≡ true
+find_passes test [] x h = absurd cc
+find_passes {X} test (y ∷ xs) x h = by (test y) refl h (find_passes test xs x)
+  where
+    by : (b : Bool) → test y ≡ b → cond b (Some y) (find test xs) ≡ Some x → (find test xs ≡ Some x → test x ≡ true) → test x ≡ true
+    by true e h later = let same : y ≡ x = cc in subst (λ z. test z ≡ true) same e
+    by false e h later = later h
 
 -- ---- points
 
