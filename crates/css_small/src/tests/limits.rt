@@ -32,7 +32,7 @@ const IN_FUNCTION: [&str; 2] = ["void f(int*p){", "}int main(void){}"];
 /// The rule that the text breaks, with its line; or `read`.
 fn verdict(alloc: Global, text: &str) -> Result<String, Fail> {
     match read_program(alloc, text.as_bytes()) {
-        Ok(_) => Ok(String::from_str(alloc, "read")?),
+        Ok(_program) => Ok(String::from_str(alloc, "read")?),
         Err(FrontFault::Static(fault)) => {
             Ok(format!(in alloc; "{:?} {}", fault.name, fault.line.number())?)
         }
