@@ -1,5 +1,5 @@
 use Rattle.std.proofs.Common.{refl, sym, subst, arith}
-use Rattle.cssrun.specs.Answer.{IsRefusedBy, too_long}
+use Rattle.cssrun.specs.Answer.{IsRefusedBy}
 use Rattle.cssrun.proofs.Commands.{long_refused_by, served_erased}
 use Rattle.cssrun.proofs.Texts.{text_refused}
 use Rattle.cssrun.proofs.answers.answer_text.Goals as goal
@@ -16,6 +16,9 @@ returns-in-Check g c = c.check_text.ensures c.args.request.now _ c.in-Check.is r
 
 pub returns-in-Run : goal.returns-in-Run
 returns-in-Run g c = c.run_text.ensures c.args.request.now c.in-Run.is refl
+
+pub erased_text-requires : goal.erased_text-requires
+erased_text-requires g c = record { short = omega (arith, c.if-text-gt-TEXT_LIMIT.false); limits = c.requires.limits }
 
 pub returns-in_default : goal.returns-in_default
 returns-in_default g c =
