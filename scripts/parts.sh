@@ -1,8 +1,5 @@
 # What several scripts share: texts that are made, and how long a call takes. It is sourced.
 
-# So many times a text.
-times() { yes -- "$1" 2>/dev/null | head -n "$2" | tr -d '\n'; }
-
 # At most 4 MiB of lines, over and over.
 filled() { yes -- "$1" 2>/dev/null | head -n $((4194304 / (${#1} + 1))); }
 

@@ -7,7 +7,7 @@ use std::marker::Model;
 use std::sync::Arc;
 
 /// Bytes that don't change, which have any number of owners, also in other threads. Contracts see their list.
-#[derive(Drop, Debug)]
+#[derive(Drop)]
 pub struct Buffer {
     bytes: Arc<Vec<u8>>,
 }

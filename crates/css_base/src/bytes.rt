@@ -7,7 +7,7 @@ use std::marker::Model;
 use std::sync::Arc;
 
 /// Where the bytes are.
-#[derive(Drop, Debug)]
+#[derive(Drop)]
 enum Place {
     /// With this owner alone.
     Own(Vec<u8>),
@@ -16,7 +16,7 @@ enum Place {
 }
 
 /// Bytes that are owned. Contracts see their list.
-#[derive(Drop, Debug)]
+#[derive(Drop)]
 pub struct Bytes {
     place: Place,
 }

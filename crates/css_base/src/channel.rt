@@ -1,7 +1,7 @@
 //! What a trace shows of a channel.
 
 /// One entry of a channel's history, as a trace shows it.
-#[derive(Clone, Copy, PartialEq, Eq, Debug)]
+#[derive(Clone, Copy, PartialEq, Eq)]
 pub enum ChannelLine {
     /// A group of transfers of so many bytes was issued on a tag.
     Issue { tag: u32, length: u64 },

@@ -28,6 +28,3 @@ pub use rule::Rule;
 pub use static_fault::{FrontFault, StaticFault, StaticName};
 pub use token::{Token, TokenKind, Tokens};
 pub use words::Words;
-
-#[cfg(test)]
-mod tests;

@@ -4,7 +4,7 @@ ghost use Rattle.std.specs.Prelude.{◌≡◌, ◌↔◌, IsTrue};
 use std::default::Default;
 
 /// What a run may use. The ranges, which `is_in_range` tests, are conditions of each call that takes limits.
-#[derive(Clone, Copy, PartialEq, Eq, Debug)]
+#[derive(Clone, Copy, PartialEq, Eq)]
 pub struct Limits {
     /// Worker threads, 1 to 16.
     pub workers: u32,

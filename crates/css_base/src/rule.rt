@@ -9,7 +9,7 @@ pub enum Rule {
     StartTwice,
     /// X2: finish is met while not started.
     FinishWithout,
-    /// X3: a dimension is below 1, its expression faults, or a window is over 2^30 bytes.
+    /// X3: a dimension is below 1 or its expression faults, a row is wider than its stride, or a window spans over 2^30 bytes.
     Dimension,
     /// X4: a call's windows don't fit the local store.
     TooLarge,

@@ -7,7 +7,7 @@ use crate::line::Line;
 /// A token with its line and its place: the bytes of the text from `place` up to `end`.
 /// For a token that came from a macro both are of the macro's use.
 #[cycle(token)]
-#[derive(Drop, Debug)]
+#[derive(Drop)]
 pub struct Token {
     pub kind: TokenKind,
     pub line: Line,
@@ -17,7 +17,7 @@ pub struct Token {
 
 /// What a token is.
 #[cycle(token)]
-#[derive(Drop, Debug)]
+#[derive(Drop)]
 pub enum TokenKind {
     /// An identifier or keyword.
     Word(Bytes),

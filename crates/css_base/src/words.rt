@@ -4,7 +4,7 @@ ghost use Rattle.std.specs.Prelude.{◌≡◌, map, length, string_bytes, slice_
 use std::marker::Model;
 
 /// The words that the program was called with, word 0 included. Contracts see the list of their texts.
-#[derive(Drop, Debug)]
+#[derive(Drop)]
 pub struct Words {
     words: Vec<String>,
 }

@@ -11,7 +11,7 @@ use Rattle.css_semantics.specs.Memory.{Memory, image, memory_after}
 use Rattle.css_semantics.specs.Flat.{no_frames, flat}
 use Rattle.css_semantics.specs.Tasks.{is_started}
 use Rattle.css_semantics.specs.Pending.{Object, pending}
-use Rattle.css_semantics.specs.Verdict.{Image, bytes_of_window, images_by, images, Verdict, verdict, judged_in}
+use Rattle.css_semantics.specs.Verdict.{ImageKind, OfBarrier, OfFinish, OfWait, Image, bytes_of_window, images_by, images, Verdict, verdict, judged_in}
 use Rattle.css_small.specs.Tree.{Program}
 use Rattle.css_small_code.specs.Meaning.{source}
 use Rattle.css_small_code.specs.Fuel.{Extends}
@@ -68,20 +68,20 @@ module _ (start : Memory) (erased : Tape) where
   seen : (i : Image) (tape : Tape) → IsPassed tape erased → IsImageOf (memory_after start tape) i → All (IsSeen start erased) (i ∷ [])
   seen i tape h is = All-from_recursion (IsSeen start erased) (i ∷ []) ((h.0, plain tape, h.1, subst (λ m. IsImageOf m i) (sym (same_memory start tape)) is), tt)
 
-  whole_seen : (b : Bool) (line : ℕ) (tape : Tape) → IsPassed tape erased → All (IsSeen start erased) (if b then record { line = line; address = 0; bytes = image (memory_after start tape) } ∷ [] else [])
-  whole_seen true line tape h = seen _ tape h (inl (refl, refl))
-  whole_seen false line tape h = none_seen
+  whole_seen : (b : Bool) (kind : ImageKind) (line : ℕ) (tape : Tape) → IsPassed tape erased → All (IsSeen start erased) (if b then record { kind = kind; line = line; address = 0; bytes = image (memory_after start tape) } ∷ [] else [])
+  whole_seen true kind line tape h = seen _ tape h (inl (refl, refl))
+  whole_seen false kind line tape h = none_seen
 
   wait_seen : (o : Option Object) (line address : ℕ) (tape : Tape) → IsPassed tape erased → ((x : Object) → o ≡ Some x → x.window.base ≡ address) → All (IsSeen start erased) (elim o [
     | None ↦ []
-    | Some o ↦ record { line = line; address = address; bytes = bytes_of_window (memory_after start tape) o.window } ∷ []
+    | Some o ↦ record { kind = OfWait; line = line; address = address; bytes = bytes_of_window (memory_after start tape) o.window } ∷ []
   ])
   wait_seen None line address tape h base = none_seen
   wait_seen (Some o) line address tape h base = seen _ tape h (inr (o.window, base o refl, refl))
 
   seen_by : (action : Action) (line : ℕ) (tape : Tape) → IsPassed tape erased → All (IsSeen start erased) (images_by start tape action line)
-  seen_by Barrier line tape h = whole_seen (is_started tape) line tape h
-  seen_by Finish line tape h = whole_seen (is_started tape) line tape h
+  seen_by Barrier line tape h = whole_seen (is_started tape) OfBarrier line tape h
+  seen_by Finish line tape h = whole_seen (is_started tape) OfFinish line tape h
   seen_by (Wait address) line tape h =
       wait_seen (find (λ (o : Object). o.window.base == address) (pending tape)) line address tape h
       (λ x e. eqb-true x.window.base address (find_passes (λ (o : Object). o.window.base == address) (pending tape) x e))

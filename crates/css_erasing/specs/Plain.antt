@@ -1,17 +1,18 @@
 -- A tape without what it says of tasks.
 use Rattle.std.specs.Prelude.{ℕ, ◌+◌, Bool, true, false, [], ◌∷◌, if◌then◌else◌}
-use Rattle.css_semantics.specs.Dialogue.{Action, Calls, Returns, Start, Finish, Barrier, Wait, Tape}
+use Rattle.css_semantics.specs.Actions.{Kind, OfMachine, OfMain, OfTasks, OfFault, kind_of}
+use Rattle.css_semantics.specs.Dialogue.{Action, Tape}
 use Rattle.css_semantics.specs.Tasks.{unit_of}
 
 -- an action that a program without directives never asks: a task's call and its return, and what begins, ends or waits for tasks
+abbrev pub is_tasks : Kind → Bool
+is_tasks OfMachine = false
+is_tasks OfMain = false
+is_tasks OfTasks = true
+is_tasks OfFault = false
+
 abbrev pub is_of_tasks : Action → Bool
-is_of_tasks (Calls call) = true
-is_of_tasks Returns = true
-is_of_tasks Start = true
-is_of_tasks Finish = true
-is_of_tasks Barrier = true
-is_of_tasks (Wait address) = true
-is_of_tasks _ = false
+is_of_tasks action = is_tasks (kind_of action)
 
 -- the tape without such items
 abbrev pub plain : Tape → Tape

@@ -1,7 +1,7 @@
 //! Laws between a program under the rules and the program without its directives. Each is what the contract of an empty function says.
 ghost use Rattle.std.specs.Prelude.{◌≡◌, ◌≤◌, ◌++◌, ℕ, false, Some, List, All};
 ghost use Rattle.css_base.specs.declared.limits.Limits.{Limits};
-ghost use Rattle.css_lex.specs.Lines.{erased};
+ghost use Rattle.css_lexemes.specs.Lines.{erased};
 ghost use Rattle.css_semantics.specs.Dialogue.{Tape, Stops, Tired, tape_of, output};
 ghost use Rattle.css_semantics.specs.Memory.{Memory, memory_after};
 ghost use Rattle.css_semantics.specs.Flat.{no_frames, flat};
@@ -15,7 +15,7 @@ ghost use Rattle.css_erasing.specs.Unmarked.{unmarked};
 ghost use Rattle.css_erasing.specs.Plain.{plain, entries};
 ghost use Rattle.css_erasing.specs.Erased.{IsPassed, IsErased, Answers, IsSeen};
 
-use css_lex::erasing_twice_is_once;
+use css_erased_text::erasing_twice_is_once;
 use css_small::one_reading;
 use css_unmarking::erased_texts_are_accepted;
 

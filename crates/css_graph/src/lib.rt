@@ -10,8 +10,6 @@ mod node;
 mod nodes;
 mod queue;
 mod state;
-#[cfg(test)]
-mod tests;
 
 pub use chosen::Chosen;
 pub use graph::Graph;

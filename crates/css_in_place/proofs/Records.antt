@@ -154,6 +154,7 @@ module _ (code : Code) (plans : List (List Spot)) (sound : IsSound code plans) (
       shape = at.shape;
       function = ap (slice_get code.functions) of_call.function ∙ at.function;
       task = at.task;
+      high = of_call.high;
       given = subst (λ scalars. records.AreGiven at.shape.arguments at.routine.parameters scalars (map coded_windows.window r.windows.items)) (sym of_call.scalars)
           (subst (records.AreGiven at.shape.arguments at.routine.parameters (scalars_of at.shape.arguments values)) (sym of_call.windows)
           (call_is_given code limits tape k arguments line uses place at (sound.shapes k at.routine at.shape at.function at.task).1));

@@ -3,7 +3,7 @@ use Rattle.std.proofs.Common.{subst, ◌≡◌, ℕ, zero, suc, ◌+◌, ◌-◌
 use Rattle.std.proofs.lemmas.List.{ext_get_or}
 use Rattle.css_semantics.specs.Memory.{Memory, is_between, overlaid, stored}
 use Rattle.css_semantics.specs.Tasks.{Use, writes, has_byte, rows_have}
-use Rattle.css_semantics.specs.Rows.{with_rows}
+use Rattle.css_semantics.specs.WithWindow.{with_rows}
 use Rattle.css_semantics.specs.Alone.{TaskMemory, task_byte, task_bytes, bytes_left, outs}
 use Rattle.css_semantics.proofs.StackPlaces.{length-overlaid}
 use Rattle.css_in_place.specs.InPlace.{written_back}

@@ -3,12 +3,13 @@ use Rattle.std.specs.Prelude.{◌≡◌, ◌≤◌, ◌++◌, ℕ, List, [], ◌
 use Rattle.css_base.specs.declared.limits.Limits.{Limits}
 use Rattle.css_base.specs.Limits.{IsInRange}
 use Rattle.css_semantics.specs.Dialogue.{Action, Calls, Returns, Tape, World, Outcome, Goes, Stops, item, then_do}
+use Rattle.css_semantics.specs.Actions.{Boundary, BodyBegins, BodyEnds, NoBoundary, boundary_of}
 use Rattle.css_semantics.specs.Memory.{Memory, stack_place, memory_after}
 use Rattle.css_semantics.specs.Flat.{no_frames}
 use Rattle.css_semantics.specs.Tasks.{Use, use_of, writes, body}
 use Rattle.css_semantics.specs.Worlds.{AreOfMachine}
 use Rattle.css_semantics.specs.Rules.{main_stack, hit}
-use Rattle.css_semantics.specs.Rows.{with_window}
+use Rattle.css_semantics.specs.WithWindow.{with_window}
 use Rattle.css_semantics.specs.Verdict.{judged_in, bytes_of_window}
 use Rattle.css_semantics.specs.Alone.{alone_world, outs_after}
 use Rattle.css_vm.specs.Code.{Routine, Shape, Code, call_of}
@@ -53,10 +54,14 @@ pub record IsAtCall (code : Code) (limits : Limits) (tape : Tape) (k : ℕ) (arg
   pub place_is : place ≡ stack_place (memory_after (no_frames limits.memory) tape)
 
 -- what main asks is a call of a task, of which `IsAtCall` holds with some arguments, or it is none
-abbrev pub IsPlaced : Code → Limits → Action → (line : ℕ) → (before : Tape) → Type 0
-IsPlaced code limits (Calls call) line before =
+abbrev pub IsPlacedAt : Code → Limits → Boundary → (line : ℕ) → (before : Tape) → Type 0
+IsPlacedAt code limits (BodyBegins call) line before =
     (arguments : List ℕ) × IsAtCall code limits (item (Calls call) line ∷ before) call.function arguments line (map use_of call.arguments) call.stack_place
-IsPlaced code limits _ line before = Unit {0}
+IsPlacedAt code limits BodyEnds line before = Unit {0}
+IsPlacedAt code limits NoBoundary line before = Unit {0}
+
+abbrev pub IsPlaced : Code → Limits → Action → (line : ℕ) → (before : Tape) → Type 0
+IsPlaced code limits action line before = IsPlacedAt code limits (boundary_of action) line before
 
 -- all calls of tasks on a tape
 abbrev pub ArePlaced : Code → Limits → Tape → Type 0

@@ -20,6 +20,7 @@ pub record IsOfCall (r : TaskRecord) (call : Call) (call_line : ℕ) : Type 0 wh
   pub scalars : r.scalars.items ≡ call.scalars
   pub windows : map window r.windows.items ≡ windows call
   pub place : r.stack_place ≡ call.stack_place
+  pub high : r.high ≡ call.is_high
   pub line : r.line ≡ call_line
 
 -- what the windows of a record hold at a call that are read

@@ -3,7 +3,7 @@ ghost use Rattle.std.specs.Prelude.{◌≡◌, ◌↔◌, IsTrue, Contains};
 ghost use Rattle.css_io.specs.Calls.{one_more};
 
 /// The number of the next call of an object, and the numbers of the calls that fail.
-#[derive(Drop, Debug)]
+#[derive(Drop)]
 pub(crate) struct Calls {
     pub(crate) next: u64,
     pub(crate) failing: Vec<u64>,

@@ -14,7 +14,7 @@ use std::rt::Files;
 
 /// A shelf over the files that a runtime has, by their paths. It tells no byte, and counts a fault at each file that can't
 /// be opened or read, with one count for all names.
-#[derive(Drop, Debug)]
+#[derive(Drop)]
 pub struct FileShelf<R> {
     rt: R,
     faults: u64,

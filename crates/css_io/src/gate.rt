@@ -18,7 +18,7 @@ pub trait Gate {
 }
 
 /// A gate that is always open: it does nothing.
-#[derive(Clone, Copy, Default, Debug)]
+#[derive(Clone, Copy, Default)]
 pub struct OpenGate {}
 
 impl OpenGate {

@@ -18,8 +18,6 @@ mod std_source;
 mod sure_shelf;
 mod sure_sink;
 mod sure_source;
-#[cfg(test)]
-mod tests;
 mod writing;
 
 pub use failed::Failed;

@@ -10,7 +10,7 @@ use std::alloc::Global;
 use std::marker::Model;
 
 /// A shelf of files in memory, which fails at the calls that it is told and at names that it hasn't.
-#[derive(Drop, Debug)]
+#[derive(Drop)]
 pub struct MemShelf {
     files: Vec<(String, Vec<u8>)>,
     counts: Vec<u64>,

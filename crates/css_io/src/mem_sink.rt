@@ -12,7 +12,7 @@ use std::alloc::Global;
 use std::marker::Model;
 
 /// A sink that keeps what is written, as far as its room goes, and fails at the calls that it is told.
-#[derive(Drop, Debug)]
+#[derive(Drop)]
 pub struct MemSink {
     bytes: Vec<u8>,
     room: usize,

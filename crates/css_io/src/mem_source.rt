@@ -9,7 +9,7 @@ use crate::source::{Source, copy_front};
 use std::marker::Model;
 
 /// A source of bytes in memory, which fails at the calls that it is told.
-#[derive(Drop, Debug)]
+#[derive(Drop)]
 pub struct MemSource {
     bytes: Vec<u8>,
     taken: usize,

@@ -12,7 +12,7 @@ use std::marker::Model;
 
 /// A sink over a writer, as standard output. It tells no byte, and counts a fault at each error of the writer and each
 /// write of nothing.
-#[derive(Drop, Debug)]
+#[derive(Drop)]
 pub struct StdSink<W> {
     writer: W,
     faults: u64,

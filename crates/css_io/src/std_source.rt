@@ -12,7 +12,7 @@ use std::marker::Model;
 
 /// A source over a reader, as standard input. It tells no byte. It counts the bytes taken, and a fault at each error of the
 /// reader and at each read that could take that number past 2^64 - 1.
-#[derive(Drop, Debug)]
+#[derive(Drop)]
 pub struct StdSource<R> {
     reader: R,
     taken: u64,

@@ -6,7 +6,7 @@ use std::alloc::Global;
 use std::marker::Model;
 
 /// A shelf that gives one file for every name, and never fails.
-#[derive(Drop, Debug)]
+#[derive(Drop)]
 pub struct SureShelf {
     file: Vec<u8>,
 }

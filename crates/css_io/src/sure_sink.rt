@@ -5,7 +5,7 @@ use crate::failed::Failed;
 use crate::sink::Sink;
 
 /// A sink that takes each piece whole and never fails. It keeps no byte and tells none.
-#[derive(Clone, Copy, Default, Debug)]
+#[derive(Clone, Copy, Default)]
 pub struct SureSink {}
 
 impl SureSink {

@@ -7,7 +7,7 @@ use crate::source::{Source, copy_front};
 use std::marker::Model;
 
 /// A source of bytes in memory, which never fails.
-#[derive(Drop, Debug)]
+#[derive(Drop)]
 pub struct SureSource {
     bytes: Vec<u8>,
     taken: usize,

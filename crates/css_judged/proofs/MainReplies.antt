@@ -7,7 +7,7 @@ use Rattle.css_semantics.specs.Dialogue.{Enter, Load, Store, Reply}
 use Rattle.css_semantics.specs.Memory.{Memory, stack_place, is_live, stored, after}
 use Rattle.css_semantics.specs.Flat.{has_room, reply_in}
 use Rattle.css_semantics.specs.Pending.{Object}
-use Rattle.css_semantics.specs.Rows.{with_rows}
+use Rattle.css_semantics.specs.WithWindow.{with_rows}
 use Rattle.css_semantics.specs.Rules.{check, meets, first_broken, judged_reply, is_main_too_deep}
 use Rattle.css_semantics.proofs.StackPlaces as places
 use Rattle.css_judged.specs.Judged.{main_reply, erased, IsOfMain}

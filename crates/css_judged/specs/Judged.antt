@@ -5,7 +5,8 @@ use Rattle.css_base.specs.declared.direction.Direction.TheVariants.{InOut}
 use Rattle.css_base.specs.declared.limits.Limits.{Limits}
 use Rattle.css_base.specs.declared.rule.Rule.{Rule}
 use Rattle.css_base.specs.declared.rule.Rule.TheVariants as rules
-use Rattle.css_semantics.specs.Dialogue.{Action, Calls, Returns, Start, Finish, Barrier, Wait, End, Argument, Reply, Tape}
+use Rattle.css_semantics.specs.Dialogue.{Action, Enter, Turn, Leave, Load, Store, Out, Calls, Returns, Start, Finish, Barrier, Wait, Fault, End, Argument, Reply, Tape}
+use Rattle.css_semantics.specs.Actions.{Boundary, BodyBegins, BodyEnds, NoBoundary, boundary_of}
 use Rattle.css_semantics.specs.Flat.{erased_stack, no_frames, reply_in}
 use Rattle.css_semantics.specs.Memory.{Memory, is_live_byte, stack_place, after, memory_after}
 use Rattle.css_semantics.specs.Pending.{Object, pending, pending_after}
@@ -72,20 +73,30 @@ plain_argument base = record { base = base; element = 4; dimensions = []; is_str
 
 -- ---- what stands on tapes
 
+abbrev pub begins_body : Boundary → Bool
+begins_body (BodyBegins call) = true
+begins_body BodyEnds = false
+begins_body NoBoundary = false
+
 abbrev pub is_call : Action → Bool
-is_call (Calls call) = true
-is_call _ = false
+is_call action = begins_body (boundary_of action)
 
 -- an action that may come from a task's body: no call of a task and no return of one, and nothing of main alone
 abbrev pub is_of_body : Action → Bool
+is_of_body (Enter size) = true
+is_of_body Turn = true
+is_of_body (Leave base size) = true
+is_of_body (Load address width) = true
+is_of_body (Store address bytes) = true
+is_of_body (Out bytes) = true
 is_of_body (Calls call) = false
 is_of_body Returns = false
 is_of_body Start = false
 is_of_body Finish = false
 is_of_body Barrier = false
 is_of_body (Wait address) = false
+is_of_body (Fault kind) = true
 is_of_body (End result) = false
-is_of_body _ = true
 
 -- all items of a tape may come from a task's body
 abbrev pub AreOfBody : Tape → Type 0

@@ -5,7 +5,7 @@ ghost use Rattle.css_semantics.specs.Flat.{no_frames};
 ghost use Rattle.css_semantics.specs.Dialogue.{Store, Says};
 ghost use Rattle.css_semantics.specs.Memory.{is_live_byte, big_endian_bytes};
 ghost use Rattle.css_semantics.specs.Pending.{with_argument};
-ghost use Rattle.css_semantics.specs.Rows.{with_window};
+ghost use Rattle.css_semantics.specs.WithWindow.{with_window};
 ghost use Rattle.css_semantics.specs.Rules.{all_of_window};
 ghost use Rattle.css_semantics.specs.Tasks as tasks;
 ghost use Rattle.css_semantics.specs.Verdict.{bytes_of_window};
@@ -15,15 +15,15 @@ ghost use Rattle.css_judged.specs.Judged.{broken_by_call, main_reply, main_after
 
 use crate::objects::{Objects, WIDTH};
 use css_base::{Buffer, Limits, NoMemory, Rule, Stop};
-use css_mem::{MainMemory, byte_count};
+use css_mem::MainMemory;
 use css_record::Window;
-use css_vm::{Space, Width};
+use css_vm::{Space, Width, byte_count};
 use std::alloc::Global;
 use std::marker::Model;
 
 /// Main's memory, and the objects that tasks may still read or write. Contracts see both. As a machine's space it refuses what
 /// breaks a rule on main, and else replies as the flat memory does.
-#[derive(Drop, Debug)]
+#[derive(Drop)]
 pub struct JudgedMemory {
     // Its stack has main's limits, so that an entry which is too deep finds no room.
     memory: MainMemory,

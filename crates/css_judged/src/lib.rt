@@ -4,8 +4,6 @@
 mod judged_memory;
 mod laws;
 mod objects;
-#[cfg(test)]
-mod tests;
 
 pub use judged_memory::JudgedMemory;
 pub use laws::{

@@ -15,7 +15,7 @@ use std::marker::Model;
 pub(crate) const WIDTH: u32 = 4;
 
 /// An object, which so far is one row, and whether a task may write it.
-#[derive(Clone, Copy, Debug)]
+#[derive(Clone, Copy)]
 pub(crate) struct Pending {
     base: u32,
     width: u32,
@@ -50,7 +50,7 @@ impl Pending {
 }
 
 /// The pending objects. Contracts see their list.
-#[derive(Drop, Debug)]
+#[derive(Drop)]
 pub(crate) struct Objects {
     items: Vec<Pending>,
     // The bytes of all of them are from the lower address on, up to the higher one.

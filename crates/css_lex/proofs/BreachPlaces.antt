@@ -5,14 +5,14 @@ use Rattle.std.proofs.lemmas.Bool.{cases_Bool}
 use Rattle.std.proofs.lemmas.List.Elements.{All-nil, All-cons, All-head, All-tail, All-append, All-map, All-filter, All-drop, All-get_or}
 use Rattle.css_base.specs.declared.static_fault.StaticName.TheVariants as statics
 use Rattle.css_lex.specs.declared.breach.Breach.{Breach}
-use Rattle.css_lex.specs.declared.line_kind.LineKind.{LineKind}
-use Rattle.css_lex.specs.declared.line_kind.LineKind.TheVariants as kinds
-use Rattle.css_lex.specs.declared.source.SourceByte.{SourceByte}
-use Rattle.css_lex.specs.Source.{bytes_of}
-use Rattle.css_lex.specs.LineKinds.{line_kind}
-use Rattle.css_lex.specs.Lexemes.{Piece}
-use Rattle.css_lex.specs.Longest.{pieces_of, pieces_from, shape_at, size_at}
-use Rattle.css_lex.specs.Macros.{Table}
+use Rattle.css_lexemes.specs.declared.line_kind.LineKind.{LineKind}
+use Rattle.css_lexemes.specs.declared.line_kind.LineKind.TheVariants as kinds
+use Rattle.css_lexemes.specs.declared.source.SourceByte.{SourceByte}
+use Rattle.css_lexemes.specs.Source.{bytes_of}
+use Rattle.css_lexemes.specs.LineKinds.{line_kind}
+use Rattle.css_lexemes.specs.Lexemes.{Piece}
+use Rattle.css_lexemes.specs.Longest.{pieces_of, pieces_from, shape_at, size_at}
+use Rattle.css_macros.specs.Macros.{Table}
 use Rattle.css_lex.specs.Costs.{State, Cost, costs_by}
 use Rattle.css_lex.specs.Reading.{is_blank_piece, read_by, kind_of_piece, place_of, first_place}
 use Rattle.css_lex.specs.Refusals.{breach, is_bad_byte, begins_unended, bad_bytes, unended_comments, is_stray, is_lexeme, stray_pieces, bad_constants, overruns, is_malformed, line_breaches}
@@ -20,7 +20,7 @@ use Rattle.css_lex.specs.LexState.{line_of}
 use Rattle.css_lex.proofs.Late.{pieces_costs, by_kind, cost_none, cost_some, passes, over_now, over_later}
 use Rattle.css_lex.proofs.LineBreaches.{pieces_in, malformed_as, spelled_as, first_of_take}
 use Rattle.css_lex.proofs.Hashes.{blanks, has_hash, hash_is}
-use Rattle.css_lex.proofs.Within.{size_some}
+use Rattle.css_lexemes.proofs.Within.{size_some}
 
 module _ (P : ℕ → Type 0) where
   abbrev OfBytes : List SourceByte → Type 0

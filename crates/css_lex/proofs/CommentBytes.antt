@@ -5,18 +5,18 @@ use Rattle.std.proofs.lemmas.Bool.{both_ways, cond-true, cond-false, cases_Bool,
 use Rattle.std.proofs.lemmas.List.{drop_more, drop_all}
 use Rattle.std.proofs.lemmas.List.Elements.{All-nil, All-cons, All-map, All-filter, All-weaker}
 use Rattle.css_lex.specs.declared.breach.Breach.{Breach}
-use Rattle.css_lex.specs.declared.source.SourceByte.{SourceByte}
+use Rattle.css_lexemes.specs.declared.source.SourceByte.{SourceByte}
 use Rattle.css_base.specs.declared.static_fault.StaticName.TheVariants as names
-use Rattle.css_lex.specs.Source.{splice_length, unspliced, bytes_of, begins_with}
-use Rattle.css_lex.specs.Comments.{length_before}
-use Rattle.css_lex.specs.Rising.{AreBetween}
+use Rattle.css_lexemes.specs.Source.{splice_length, unspliced, bytes_of, begins_with}
+use Rattle.css_lexemes.specs.Comments.{length_before}
+use Rattle.css_lexemes.specs.Rising.{AreBetween}
 use Rattle.css_lex.specs.Refusals.{breach, is_bad_byte, is_unended, begins_unended, bad_bytes, unended_comments, byte_breach}
 use Rattle.css_lex.specs.Found.{IsFirst}
 use Rattle.css_lex.specs.CommentEnd.{plain_bytes, has_end}
-use Rattle.css_lex.proofs.Shifting.{unspliced_moved, moved_bytes}
-use Rattle.css_lex.proofs.Splices.{past_splice}
+use Rattle.css_lexemes.proofs.Shifting.{unspliced_moved, moved_bytes}
+use Rattle.css_lexemes.proofs.Splices.{past_splice}
 use Rattle.css_lex.proofs.Firsts.{AllFrom, AllBehind, in_front, before_others, behind_others, from_behind}
-use Rattle.css_lex.proofs.Places.{from_lower}
+use Rattle.css_lexemes.proofs.Places.{from_lower}
 
 -- Bytes don't hang on the place where a text stands.
 pub plain_moved : (place : ℕ) (text : List ℕ) → bytes_of (unspliced place 0 text) ≡ plain_bytes text

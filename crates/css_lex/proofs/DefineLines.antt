@@ -8,18 +8,18 @@ use Rattle.std.proofs.lemmas.List.Elements.{All-nil, All-tail}
 use Rattle.css_base.specs.Tokens.{Kind, Lexeme, lexemes}
 use Rattle.css_lex.specs.declared.breach.Breach.{Breach}
 use Rattle.css_lex.specs.declared.line.Brought.{Brought}
-use Rattle.css_lex.specs.declared.line_kind.LineKind.TheVariants as kinds
-use Rattle.css_lex.specs.declared.source.SourceByte.{SourceByte}
-use Rattle.css_lex.specs.Source.{bytes_of}
-use Rattle.css_lex.specs.LineKinds.{line_kind}
-use Rattle.css_lex.specs.Lexemes.{Piece}
-use Rattle.css_lex.specs.Longest.{pieces_of}
-use Rattle.css_lex.specs.Macros.{IsPlain, may_define, defined}
-use Rattle.css_lex.specs.MacroTables.{table_of}
+use Rattle.css_lexemes.specs.declared.line_kind.LineKind.TheVariants as kinds
+use Rattle.css_lexemes.specs.declared.source.SourceByte.{SourceByte}
+use Rattle.css_lexemes.specs.Source.{bytes_of}
+use Rattle.css_lexemes.specs.LineKinds.{line_kind}
+use Rattle.css_lexemes.specs.Lexemes.{Piece}
+use Rattle.css_lexemes.specs.Longest.{pieces_of}
+use Rattle.css_macros.specs.Macros.{IsPlain, may_define, defined}
+use Rattle.css_macros.specs.MacroTables.{table_of}
 use Rattle.css_lex.specs.Costs.{State}
 use Rattle.css_lex.specs.Reading.{is_blank_piece, is_identifier, solid, from_solid, behind_first, kind_of_piece, place_of, first_place, definition_at, definition_of, with_definition, table_by}
 use Rattle.css_lex.specs.Refusals.{is_empty, stray_pieces, bad_constants, bad_bytes, unended_comments, is_bad_definition, line_breaches}
-use Rattle.css_lex.specs.Rising.{AreBetween}
+use Rattle.css_lexemes.specs.Rising.{AreBetween}
 use Rattle.css_lex.specs.Words.{own_breach, words_of, failure_of}
 use Rattle.css_lex.specs.Found.{IsFirst, IsFound, least_of}
 use Rattle.css_lex.specs.HashLines.{opens, kind_at, front_name, behind_name}

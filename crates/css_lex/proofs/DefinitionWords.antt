@@ -5,20 +5,20 @@ use Rattle.std.proofs.lemmas.Bool.{cases_Bool, cases_eq, cond-true, cond-false, 
 use Rattle.std.proofs.lemmas.List.{length-map, drop-map, drop-drop, drop_more, drop_all}
 use Rattle.std.proofs.lemmas.List.Folds.{length-prefix_len}
 use Rattle.std.proofs.lemmas.List.Sums.{prefix_len-le-length}
-use Rattle.css_lex.specs.declared.pieces.Shape.{Shape}
-use Rattle.css_lex.specs.declared.pieces.Shape.TheVariants as shapes
-use Rattle.css_lex.specs.declared.source.SourceByte.{SourceByte}
-use Rattle.css_lex.specs.Source.{begins_with, bytes_of}
-use Rattle.css_lex.specs.LineKinds.{is_blank, behind_blanks}
-use Rattle.css_lex.specs.Lexemes.{Piece}
-use Rattle.css_lex.specs.Longest.{class_at, lexeme_length, shape_at, size_at, pieces_of, pieces_from}
+use Rattle.css_lexemes.specs.declared.pieces.Shape.{Shape}
+use Rattle.css_lexemes.specs.declared.pieces.Shape.TheVariants as shapes
+use Rattle.css_lexemes.specs.declared.source.SourceByte.{SourceByte}
+use Rattle.css_lexemes.specs.Source.{begins_with, bytes_of}
+use Rattle.css_lexemes.specs.LineKinds.{is_blank, behind_blanks}
+use Rattle.css_lexemes.specs.Lexemes.{Piece}
+use Rattle.css_lexemes.specs.Longest.{class_at, lexeme_length, shape_at, size_at, pieces_of, pieces_from}
 use Rattle.css_lex.specs.Reading.{is_blank_piece, from_solid, behind_first, first_bytes}
 use Rattle.css_lex.specs.Words.{IsPieceAt}
 use Rattle.css_lex.specs.HashLines.{opens}
-use Rattle.css_lex.proofs.Erasing.{at_place}
-use Rattle.css_lex.proofs.Rests.{rest_is}
+use Rattle.css_lexemes.proofs.Erasing.{at_place}
+use Rattle.css_lexemes.proofs.Rests.{rest_is}
 use Rattle.css_lex.proofs.WordsRead.{piece_at}
-use Rattle.css_lex.proofs.Within.{size_some}
+use Rattle.css_lexemes.proofs.Within.{size_some}
 use Rattle.css_lex.proofs.Hashes.{blanks, blank_piece, one_more}
 
 full_shape : (b : ℕ) (text : List ℕ) → is_blank b ≡ false → is_blank_piece (shape_at (b ∷ text)) ≡ false

@@ -5,15 +5,15 @@ use Rattle.std.specs.List.{prefix_len}
 use Rattle.std.proofs.lemmas.Bool.{cases_Bool, both_ways, cond-true, cond-false, eqb-true, and_parts}
 use Rattle.std.proofs.lemmas.List.{drop-map, drop_more}
 use Rattle.std.proofs.lemmas.List.Folds.{length-prefix_len}
-use Rattle.css_lex.specs.declared.line_kind.LineKind.TheVariants as kinds
-use Rattle.css_lex.specs.declared.pieces.Shape.TheVariants as shapes
-use Rattle.css_lex.specs.declared.source.SourceByte.{SourceByte}
-use Rattle.css_lex.specs.Source.{begins_with, bytes_of}
-use Rattle.css_lex.specs.LineKinds.{is_blank, behind_blanks, line_kind}
-use Rattle.css_lex.specs.Lexemes.{Piece}
-use Rattle.css_lex.specs.Longest.{shape_at, size_at, pieces_of, pieces_from}
+use Rattle.css_lexemes.specs.declared.line_kind.LineKind.TheVariants as kinds
+use Rattle.css_lexemes.specs.declared.pieces.Shape.TheVariants as shapes
+use Rattle.css_lexemes.specs.declared.source.SourceByte.{SourceByte}
+use Rattle.css_lexemes.specs.Source.{begins_with, bytes_of}
+use Rattle.css_lexemes.specs.LineKinds.{is_blank, behind_blanks, line_kind}
+use Rattle.css_lexemes.specs.Lexemes.{Piece}
+use Rattle.css_lexemes.specs.Longest.{shape_at, size_at, pieces_of, pieces_from}
 use Rattle.css_lex.specs.Reading.{is_blank_piece, solid, from_solid, first_place}
-use Rattle.css_lex.proofs.Erasing.{at_place}
+use Rattle.css_lexemes.proofs.Erasing.{at_place}
 use Rattle.css_lex.proofs.LineBreaches.{pieces_in}
 
 abbrev pub blanks : List SourceByte → ℕ

@@ -7,10 +7,10 @@ use Rattle.std.proofs.lemmas.List.Elements.{All-nil, All-cons, All-head, All-tai
 use Rattle.css_base.specs.declared.static_fault.StaticName.TheVariants as statics
 use Rattle.css_base.specs.Tokens.{Kind, Lexeme, At}
 use Rattle.css_lex.specs.declared.breach.Breach.{Breach}
-use Rattle.css_lex.specs.declared.pieces.Shape.{Shape}
-use Rattle.css_lex.specs.declared.pieces.Shape.TheVariants as shapes
-use Rattle.css_lex.specs.Lexemes.{Piece}
-use Rattle.css_lex.specs.Macros.{Table, replacement, replacement_names}
+use Rattle.css_lexemes.specs.declared.pieces.Shape.{Shape}
+use Rattle.css_lexemes.specs.declared.pieces.Shape.TheVariants as shapes
+use Rattle.css_lexemes.specs.Lexemes.{Piece}
+use Rattle.css_macros.specs.Macros.{Table, replacement, replacement_names}
 use Rattle.css_lex.specs.Reading.{is_blank_piece, kind_of_piece, place_of, end_of}
 use Rattle.css_lex.specs.Costs.{Cost, piece_costs}
 use Rattle.css_lex.specs.Spelling.{line_at, tokens_of}

@@ -5,23 +5,23 @@ use Rattle.std.proofs.lemmas.Bool.{cases_Bool, cond-true, cond-false}
 use Rattle.std.proofs.lemmas.List.Elements.{All-nil, All-cons}
 use Rattle.css_base.specs.declared.static_fault.StaticName.TheVariants as statics
 use Rattle.css_lex.specs.declared.breach.Breach.{Breach}
-use Rattle.css_lex.specs.declared.line_kind.LineKind.{LineKind}
-use Rattle.css_lex.specs.declared.source.SourceByte.{SourceByte}
-use Rattle.css_lex.specs.Source.{bytes_of}
-use Rattle.css_lex.specs.LineKinds.{line_kind}
-use Rattle.css_lex.specs.Lexemes.{Piece}
-use Rattle.css_lex.specs.Longest.{pieces_of, pieces_from, shape_at, size_at}
-use Rattle.css_lex.specs.Macros.{Table}
+use Rattle.css_lexemes.specs.declared.line_kind.LineKind.{LineKind}
+use Rattle.css_lexemes.specs.declared.source.SourceByte.{SourceByte}
+use Rattle.css_lexemes.specs.Source.{bytes_of}
+use Rattle.css_lexemes.specs.LineKinds.{line_kind}
+use Rattle.css_lexemes.specs.Lexemes.{Piece}
+use Rattle.css_lexemes.specs.Longest.{pieces_of, pieces_from, shape_at, size_at}
+use Rattle.css_macros.specs.Macros.{Table}
 use Rattle.css_lex.specs.Reading.{is_blank_piece, solid, read_by, place_of, first_place, table_by}
 use Rattle.css_lex.specs.Costs.{State, costs_by, state_behind}
 use Rattle.css_lex.specs.Spelling.{tokens_by, tokens_of_line}
 use Rattle.css_lex.specs.Refusals.{breach, bad_bytes, unended_comments, stray_pieces, bad_constants, overruns, is_empty, is_malformed, line_breaches}
-use Rattle.css_lex.specs.Rising.{AreBetween}
+use Rattle.css_lexemes.specs.Rising.{AreBetween}
 use Rattle.css_lex.specs.Found.{IsFound, least_of}
 use Rattle.css_lex.specs.LexState.{line_of}
 use Rattle.css_lex.proofs.Late.{AreSolid, solid_lower, both_found}
-use Rattle.css_lex.proofs.Places.{from_lower}
-use Rattle.css_lex.proofs.Within.{size_some}
+use Rattle.css_lexemes.proofs.Places.{from_lower}
+use Rattle.css_lexemes.proofs.Within.{size_some}
 
 abbrev pub pieces_in : List SourceByte → List Piece
 pieces_in line = solid (pieces_of line)

@@ -2,12 +2,12 @@
 use Rattle.std.proofs.Common.{◌≡◌, ℕ, ◌+◌, ◌-◌, ◌≤◌, true, false, not, List, [], ◌∷◌, length, drop, refl, ap, ◌∙◌}
 use Rattle.std.proofs.lemmas.Bool.{cond-true, cond-false}
 use Rattle.std.proofs.lemmas.List.{drop_all}
-use Rattle.css_lex.specs.declared.pieces.Shape.{Shape}
-use Rattle.css_lex.specs.declared.source.SourceByte.{SourceByte}
-use Rattle.css_lex.specs.Lexemes.{Piece}
+use Rattle.css_lexemes.specs.declared.pieces.Shape.{Shape}
+use Rattle.css_lexemes.specs.declared.source.SourceByte.{SourceByte}
+use Rattle.css_lexemes.specs.Lexemes.{Piece}
 use Rattle.css_lex.specs.Reading.{is_blank_piece, solid, end_of, last_end}
 use Rattle.css_lex.specs.Words.{IsPieceAt, piece_in}
-use Rattle.css_lex.proofs.Erasing.{at_place}
+use Rattle.css_lexemes.proofs.Erasing.{at_place}
 use Rattle.css_lex.proofs.Spelled.{end_in}
 use Rattle.css_lex.proofs.WordsRead.{piece_at, piece_some, piece_inside}
 use Rattle.css_lex.proofs.LineBreaches.{pieces_in}

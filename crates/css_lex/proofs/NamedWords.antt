@@ -1,19 +1,18 @@
 -- Names among the words of a line.
-use Rattle.std.proofs.Common.{◌≡◌, ℕ, inl, inr, Bool, false, not, ◌||◌, List, [], ◌∷◌, length, drop, cond, refl, sym, ap, ◌∙◌, subst, All, Option, Some, None, option_map, option_and_then}
+use Rattle.std.proofs.Common.{◌≡◌, ℕ, inl, inr, false, not, ◌||◌, List, [], ◌∷◌, length, drop, cond, refl, sym, ap, ◌∙◌, subst, All, Option, Some, None, option_map, option_and_then}
 use Rattle.std.specs.Prelude.{codes, ◌==◌, if◌then◌else◌}
 use Rattle.std.proofs.lemmas.Bool.{cases_Bool, cond-true, cond-false, cond_both}
 use Rattle.std.proofs.lemmas.List.{drop-drop}
 use Rattle.std.proofs.lemmas.List.Elements.{All-nil, All-cons}
 use Rattle.css_base.specs.declared.int_type.IntType.{IntType}
 use Rattle.css_base.specs.Tokens.{Kind, Word, Number, Character, Text, Punctuator, At}
-use Rattle.css_lex.specs.declared.lexeme_class.LexemeClass.TheVariants as classes
-use Rattle.css_lex.specs.declared.pieces.Shape.{Shape}
-use Rattle.css_lex.specs.declared.pieces.Shape.TheVariants as shapes
-use Rattle.css_lex.specs.declared.values.Suffix.{Suffix}
-use Rattle.css_lex.specs.Source.{begins_with, bytes_of}
-use Rattle.css_lex.specs.Lexemes.{Piece}
-use Rattle.css_lex.specs.Values.{digits_in, value_in, suffixes, suffix_in, candidates, first_type, constant_in, number_in, integer_constant, characters, between_quotes, one_character}
-use Rattle.css_lex.specs.Macros.{IsPlain}
+use Rattle.css_lexemes.specs.declared.lexeme_class.LexemeClass.TheVariants as classes
+use Rattle.css_lexemes.specs.declared.pieces.Shape.{Shape}
+use Rattle.css_lexemes.specs.declared.pieces.Shape.TheVariants as shapes
+use Rattle.css_lexemes.specs.Source.{begins_with, bytes_of}
+use Rattle.css_lexemes.specs.Lexemes.{Piece}
+use Rattle.css_lexemes.specs.Values.{digits_in, value_in, suffixes, suffix_in, candidates, first_type, constant_in, number_in, integer_constant, characters, between_quotes, one_character}
+use Rattle.css_macros.specs.Macros.{IsPlain}
 use Rattle.css_lex.specs.Reading.{is_blank_piece, is_identifier, solid, from_solid, behind_first, kind_in, place_of, end_of, undefined_at, undefined_of}
 use Rattle.css_lex.specs.Spelling.{line_at}
 use Rattle.css_lex.specs.Words.{words_of, failure_of}
@@ -37,16 +36,16 @@ number_typed : (value : ℕ) (found : Option IntType) → AllNoNames (option_map
 number_typed value None = no_names
 number_typed value (Some t) = one_no_name (Number t value) (refl, tt)
 
-number_suffixed : (decimal : Bool) (value : ℕ) (found : Option Suffix)
-    → AllNoNames (option_and_then (λ s. option_map (λ t. Number t value) (first_type decimal s value candidates)) found)
-number_suffixed decimal value None = no_names
-number_suffixed decimal value (Some s) = number_typed value (first_type decimal s value candidates)
+number_suffixed : {S : Type 0} (value : ℕ) (found : Option S) (typed : S → Option IntType)
+    → AllNoNames (option_and_then (λ s. option_map (λ t. Number t value) (typed s)) found)
+number_suffixed value None typed = no_names
+number_suffixed value (Some s) typed = number_typed value (typed s)
 
 number_digits : (base : ℕ) (bytes : List ℕ) → AllNoNames (number_in base bytes)
 number_digits base bytes =
     let digits = digits_in base bytes in
     cond_both (length digits == 0) None (constant_in base digits (drop (length digits) bytes)) AllNoNames (λ _. no_names)
-    (λ _. number_suffixed (base == 10) (value_in base digits) (suffix_in suffixes (drop (length digits) bytes)))
+    (λ _. number_suffixed (value_in base digits) (suffix_in suffixes (drop (length digits) bytes)) (λ s. first_type (base == 10) s (value_in base digits) candidates))
 
 constant_number : (bytes : List ℕ) → AllNoNames (integer_constant bytes)
 constant_number bytes =

@@ -4,8 +4,8 @@ use Rattle.std.proofs.lemmas.List.Elements.{All-nil, All-cons, All-head, All-tai
 use Rattle.css_base.specs.declared.static_fault.StaticFault.{StaticFault}
 use Rattle.css_base.specs.Tokens.{Lexeme}
 use Rattle.css_lex.specs.declared.breach.Breach.{Breach}
-use Rattle.css_lex.specs.Lines.{LogicalLine, logical_lines}
-use Rattle.css_lex.specs.Lexemes.{ConsistsOf}
+use Rattle.css_lexemes.specs.Lines.{LogicalLine, logical_lines}
+use Rattle.css_lexemes.specs.Lexemes.{ConsistsOf}
 use Rattle.css_lex.specs.Reading.{ReadLine, Reads}
 use Rattle.css_lex.specs.Spelling.{line_at, tokens_of_lines}
 use Rattle.css_lex.specs.Refusals.{breaches, first_breach, refusal}
@@ -13,7 +13,7 @@ use Rattle.css_lex.specs.Lexing.{longest_text, SpellsTokens, BreaksFirst, IsRefu
 use Rattle.css_lex.specs.Found.{IsFirst}
 use Rattle.css_lex.specs.LexState.{with_pieces, read_lines}
 use Rattle.css_lex.proofs.Firsts.{first_is}
-use Rattle.css_lex.proofs.LinePieces.{consists, only}
+use Rattle.css_lexemes.proofs.LinePieces.{consists, only}
 
 abbrev Consist : List ReadLine → Type 0
 Consist lines = All (λ r. ConsistsOf r.line.bytes r.pieces) lines

@@ -3,16 +3,16 @@ use Rattle.std.proofs.Common.{◌≡◌, ℕ, zero, suc, ◌+◌, ◌-◌, ◌<�
 use Rattle.std.specs.Prelude.{slice_range, slice_index, length}
 use Rattle.std.proofs.lemmas.List.{take-map, drop-map, drop_more, take_more, get_or-drop}
 use Rattle.css_base.specs.Tokens.{Kind, Lexeme, At}
-use Rattle.css_lex.specs.declared.lexeme_class.LexemeClass.{LexemeClass}
-use Rattle.css_lex.specs.declared.pieces.Shape.{Shape}
-use Rattle.css_lex.specs.declared.pieces.Shape.TheVariants as shapes
-use Rattle.css_lex.specs.declared.source.SourceByte.{SourceByte}
-use Rattle.css_lex.specs.Source.{bytes_of}
-use Rattle.css_lex.specs.Values.{kind_of_lexeme}
+use Rattle.css_lexemes.specs.declared.lexeme_class.LexemeClass.{LexemeClass}
+use Rattle.css_lexemes.specs.declared.pieces.Shape.{Shape}
+use Rattle.css_lexemes.specs.declared.pieces.Shape.TheVariants as shapes
+use Rattle.css_lexemes.specs.declared.source.SourceByte.{SourceByte}
+use Rattle.css_lexemes.specs.Source.{bytes_of}
+use Rattle.css_lexemes.specs.Values.{kind_of_lexeme}
 use Rattle.css_lex.specs.Reading.{kind_in, kind_of_piece, place_of, end_of, last_place}
 use Rattle.css_lex.specs.Spelling.{line_at}
 use Rattle.css_lex.specs.Words.{piece_in, word_of}
-use Rattle.css_lex.proofs.Erasing.{at_place}
+use Rattle.css_lexemes.proofs.Erasing.{at_place}
 
 pub bytes_in : (line : List SourceByte) (from to : ℕ) → bytes_of (slice_range line from to) ≡ slice_range (bytes_of line) from to
 bytes_in line from to = sym (ap (take (to - from)) (drop-map (λ b. b.byte) from line) ∙ take-map (λ b. b.byte) (to - from) (drop from line))

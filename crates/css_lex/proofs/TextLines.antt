@@ -3,14 +3,14 @@ use Rattle.std.proofs.Common.{◌≡◌, ℕ, ◌+◌, List, [], ◌++◌, lengt
 use Rattle.css_base.specs.Tokens.{Lexeme, lexemes}
 use Rattle.css_lex.specs.declared.breach.Breach.{Breach}
 use Rattle.css_lex.specs.declared.line.Brought.{Brought}
-use Rattle.css_lex.specs.declared.line_kind.LineKind.TheVariants as kinds
-use Rattle.css_lex.specs.declared.source.SourceByte.{SourceByte}
-use Rattle.css_lex.specs.Source.{bytes_of}
-use Rattle.css_lex.specs.LineKinds.{line_kind}
-use Rattle.css_lex.specs.MacroTables.{table_of}
+use Rattle.css_lexemes.specs.declared.line_kind.LineKind.TheVariants as kinds
+use Rattle.css_lexemes.specs.declared.source.SourceByte.{SourceByte}
+use Rattle.css_lexemes.specs.Source.{bytes_of}
+use Rattle.css_lexemes.specs.LineKinds.{line_kind}
+use Rattle.css_macros.specs.MacroTables.{table_of}
 use Rattle.css_lex.specs.Costs.{State}
 use Rattle.css_lex.specs.Refusals.{bad_bytes, unended_comments, overruns, line_breaches}
-use Rattle.css_lex.specs.Rising.{AreBetween}
+use Rattle.css_lexemes.specs.Rising.{AreBetween}
 use Rattle.css_lex.specs.Words.{words_of, failure_of}
 use Rattle.css_lex.specs.Expanded.{expanded, word_costs, tokens_among, names_among, IsHead}
 use Rattle.css_lex.specs.Found.{IsFound, least_of}

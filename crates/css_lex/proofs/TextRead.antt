@@ -6,18 +6,18 @@ use Rattle.std.proofs.lemmas.Bool.{cases_eq}
 use Rattle.css_base.specs.Tokens.{Lexeme, lexemes}
 use Rattle.css_lex.specs.declared.breach.Breach.{Breach}
 use Rattle.css_lex.specs.declared.line.Brought.{Brought}
-use Rattle.css_lex.specs.declared.source.SourceByte.{SourceByte}
-use Rattle.css_lex.specs.Lines.{lines_from, shown_bytes}
-use Rattle.css_lex.specs.MacroTables.{table_of}
+use Rattle.css_lexemes.specs.declared.source.SourceByte.{SourceByte}
+use Rattle.css_lexemes.specs.Lines.{lines_from, shown_bytes}
+use Rattle.css_macros.specs.MacroTables.{table_of}
 use Rattle.css_lex.specs.Reading.{ReadLine}
 use Rattle.css_lex.specs.Costs.{State, state_behind, at_start, over_lines}
 use Rattle.css_lex.specs.Spelling.{tokens_of_line}
 use Rattle.css_lex.specs.Refusals.{line_breaches, breaches}
-use Rattle.css_lex.specs.Rising.{AreBetween}
+use Rattle.css_lexemes.specs.Rising.{AreBetween}
 use Rattle.css_lex.specs.Found.{IsFirst}
 use Rattle.css_lex.specs.LexState.{state_of, line_of, with_pieces, read_lines, IsLexed, IsWhole}
-use Rattle.css_lex.proofs.Erasing.{at_place, rest_at, newline_line, other_line}
-use Rattle.css_lex.proofs.Places.{shown_between}
+use Rattle.css_lexemes.proofs.Erasing.{at_place, rest_at, newline_line, other_line}
+use Rattle.css_lexemes.proofs.Places.{shown_between}
 use Rattle.css_lex.proofs.CommentBytes.{between_from}
 use Rattle.css_lex.proofs.Firsts.{AllFrom, before_others}
 use Rattle.css_lex.proofs.BreachPlaces.{of_line}

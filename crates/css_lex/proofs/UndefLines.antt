@@ -6,14 +6,14 @@ use Rattle.css_base.specs.declared.static_fault.StaticName.TheVariants as static
 use Rattle.css_base.specs.Tokens.{lexemes}
 use Rattle.css_lex.specs.declared.breach.Breach.{Breach}
 use Rattle.css_lex.specs.declared.line.Brought.{Brought}
-use Rattle.css_lex.specs.declared.line_kind.LineKind.{LineKind}
-use Rattle.css_lex.specs.declared.line_kind.LineKind.TheVariants as kinds
-use Rattle.css_lex.specs.declared.source.SourceByte.{SourceByte}
-use Rattle.css_lex.specs.Source.{bytes_of}
-use Rattle.css_lex.specs.LineKinds.{line_kind}
-use Rattle.css_lex.specs.Longest.{pieces_of}
-use Rattle.css_lex.specs.Macros.{Table, undefined}
-use Rattle.css_lex.specs.MacroTables.{table_of}
+use Rattle.css_lexemes.specs.declared.line_kind.LineKind.{LineKind}
+use Rattle.css_lexemes.specs.declared.line_kind.LineKind.TheVariants as kinds
+use Rattle.css_lexemes.specs.declared.source.SourceByte.{SourceByte}
+use Rattle.css_lexemes.specs.Source.{bytes_of}
+use Rattle.css_lexemes.specs.LineKinds.{line_kind}
+use Rattle.css_lexemes.specs.Longest.{pieces_of}
+use Rattle.css_macros.specs.Macros.{Table, undefined}
+use Rattle.css_macros.specs.MacroTables.{table_of}
 use Rattle.css_lex.specs.Costs.{State}
 use Rattle.css_lex.specs.Reading.{first_place, undefined_of, table_by, without_name}
 use Rattle.css_lex.specs.Spelling.{tokens_by}

@@ -6,7 +6,7 @@ use Rattle.std.proofs.lemmas.List.Sums.{sum_by-cons}
 use Rattle.css_base.specs.Tokens.{Lexeme}
 use Rattle.css_base.specs.declared.static_fault.StaticName.TheVariants as statics
 use Rattle.css_lex.specs.declared.breach.Breach.{Breach}
-use Rattle.css_lex.specs.Macros.{Table}
+use Rattle.css_macros.specs.Macros.{Table}
 use Rattle.css_lex.specs.Costs.{Cost}
 use Rattle.css_lex.specs.Refusals.{breach, overruns}
 use Rattle.css_lex.specs.Expanded.{replaced_word, expanded, word_cost, word_costs, tokens_among, names_among, IsHead}

@@ -4,17 +4,17 @@ use Rattle.std.specs.Prelude.{slice_range, ◌==◌}
 use Rattle.std.proofs.lemmas.Bool.{and_parts, and_cases, both_ways, cond-true, cond-false, eqb-true, eqb-false, not-true, cases_Bool}
 use Rattle.std.proofs.lemmas.List.{length-map, drop-map, drop-drop, drop_all, append-nil}
 use Rattle.css_base.specs.Tokens.{Kind, Lexeme, At}
-use Rattle.css_lex.specs.declared.pieces.Shape.{Shape}
-use Rattle.css_lex.specs.declared.source.SourceByte.{SourceByte}
-use Rattle.css_lex.specs.Source.{bytes_of}
-use Rattle.css_lex.specs.Lexemes.{Piece}
-use Rattle.css_lex.specs.Longest.{shape_at, size_at, pieces_of, pieces_from}
+use Rattle.css_lexemes.specs.declared.pieces.Shape.{Shape}
+use Rattle.css_lexemes.specs.declared.source.SourceByte.{SourceByte}
+use Rattle.css_lexemes.specs.Source.{bytes_of}
+use Rattle.css_lexemes.specs.Lexemes.{Piece}
+use Rattle.css_lexemes.specs.Longest.{shape_at, size_at, pieces_of, pieces_from}
 use Rattle.css_lex.specs.Reading.{is_blank_piece, solid, kind_of_piece, place_of, end_of}
 use Rattle.css_lex.specs.Spelling.{line_at}
 use Rattle.css_lex.specs.Words.{IsPieceAt, piece_in, word_of, own_breach, words_of, failure_of, is_kept, skip_behind}
-use Rattle.css_lex.proofs.Rests.{rest_is}
-use Rattle.css_lex.proofs.LinePieces.{pieces_behind, drop_first}
-use Rattle.css_lex.proofs.Within.{size_within, size_some}
+use Rattle.css_lexemes.proofs.Rests.{rest_is}
+use Rattle.css_lexemes.proofs.LinePieces.{pieces_behind, drop_first}
+use Rattle.css_lexemes.proofs.Within.{size_within, size_some}
 
 first_piece_is : (rest : List SourceByte) → 0 < length rest
     → pieces_of rest ≡ record { shape = shape_at (bytes_of rest); bytes = take (size_at (bytes_of rest)) rest } ∷ pieces_of (drop (size_at (bytes_of rest)) rest)

@@ -1,6 +1,6 @@
 -- Whether a comment is ended, one byte at a time.
 use Rattle.std.specs.Prelude.{◌≡◌, ℕ, ◌≤◌, Bool, false, ◌&&◌, ◌||◌, List, [], ◌∷◌, length, drop, ◌==◌, Option, Some, None}
-use Rattle.css_lex.specs.Source.{begins_with, unspliced, bytes_of}
+use Rattle.css_lexemes.specs.Source.{begins_with, unspliced, bytes_of}
 
 -- The bytes of a text without its splices.
 abbrev pub plain_bytes : List ℕ → List ℕ

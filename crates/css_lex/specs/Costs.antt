@@ -1,10 +1,10 @@
 -- What the lines of a text bring: macros, tokens and replaced names.
 use Rattle.std.specs.Prelude.{ℕ, ◌+◌, List, [], ◌∷◌, ◌++◌, length, flat_map, sum_by, Some, None}
-use Rattle.css_lex.specs.declared.line_kind.LineKind.{LineKind}
-use Rattle.css_lex.specs.declared.line_kind.LineKind.TheVariants as kinds
-use Rattle.css_lex.specs.Lines.{kind_of_line}
-use Rattle.css_lex.specs.Lexemes.{Piece}
-use Rattle.css_lex.specs.Macros.{Table, replacement, replacement_names, predefined_macros}
+use Rattle.css_lexemes.specs.declared.line_kind.LineKind.{LineKind}
+use Rattle.css_lexemes.specs.declared.line_kind.LineKind.TheVariants as kinds
+use Rattle.css_lexemes.specs.Lines.{kind_of_line}
+use Rattle.css_lexemes.specs.Lexemes.{Piece}
+use Rattle.css_macros.specs.Macros.{Table, replacement, replacement_names, predefined_macros}
 use Rattle.css_lex.specs.Reading.{ReadLine, solid, read_by, kind_of_piece, place_of, first_place, table_behind}
 
 -- How many tokens a place of the text gives, before strings are joined, and how many names are replaced there.

@@ -2,7 +2,7 @@
 use Rattle.std.specs.Prelude.{◌≡◌, ℕ, List, ◌∷◌, map, length, flat_map, sum_by}
 use Rattle.css_base.specs.Tokens.{Lexeme, At}
 use Rattle.css_lex.specs.declared.breach.Breach.{Breach}
-use Rattle.css_lex.specs.Macros.{Table, replacement, replacement_names}
+use Rattle.css_macros.specs.Macros.{Table, replacement, replacement_names}
 use Rattle.css_lex.specs.Costs.{Cost}
 
 -- The tokens that replace a word, each with the word's line and range.

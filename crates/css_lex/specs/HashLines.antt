@@ -2,8 +2,8 @@
 use Rattle.std.specs.Prelude.{ℕ, Bool, false, List, [], ◌∷◌, codes, Option, Some, None}
 use Rattle.css_base.specs.Tokens.{Kind, Word, Lexeme, At}
 use Rattle.css_lex.specs.declared.breach.Breach.{Breach}
-use Rattle.css_lex.specs.Source.{begins_with, bytes_of}
-use Rattle.css_lex.specs.Lexemes.{Piece}
+use Rattle.css_lexemes.specs.Source.{begins_with, bytes_of}
+use Rattle.css_lexemes.specs.Lexemes.{Piece}
 use Rattle.css_lex.specs.Reading.{first_bytes}
 
 -- A parenthesis stands directly behind the first piece.

@@ -2,12 +2,12 @@
 use Rattle.std.specs.Prelude.{◌≡◌, ℕ, Bool, true, false, List, [], ◌++◌, map}
 use Rattle.css_base.specs.Tokens.{lexemes}
 use Rattle.css_lex.specs.declared.line.Brought.{Brought}
-use Rattle.css_lex.specs.declared.line_kind.LineKind.{LineKind}
-use Rattle.css_lex.specs.declared.line_kind.LineKind.TheVariants as kinds
-use Rattle.css_lex.specs.declared.source.SourceByte.{SourceByte}
-use Rattle.css_lex.specs.Lines.{LogicalLine, logical_lines}
-use Rattle.css_lex.specs.Longest.{pieces_of}
-use Rattle.css_lex.specs.MacroTables.{table_of}
+use Rattle.css_lexemes.specs.declared.line_kind.LineKind.{LineKind}
+use Rattle.css_lexemes.specs.declared.line_kind.LineKind.TheVariants as kinds
+use Rattle.css_lexemes.specs.declared.source.SourceByte.{SourceByte}
+use Rattle.css_lexemes.specs.Lines.{LogicalLine, logical_lines}
+use Rattle.css_lexemes.specs.Longest.{pieces_of}
+use Rattle.css_macros.specs.MacroTables.{table_of}
 use Rattle.css_lex.specs.Reading.{ReadLine}
 use Rattle.css_lex.specs.Costs.{State, state_behind, at_start, over_lines}
 use Rattle.css_lex.specs.Spelling.{tokens_of_line}

@@ -1,17 +1,17 @@
 -- A text as logical lines and their pieces, and what each line does to the macros that are defined behind it.
 use Rattle.std.specs.Prelude.{◌≡◌, ℕ, ◌+◌, Bool, true, false, not, ◌&&◌, List, [], ◌∷◌, map, drop, slice_index, filter, filter_map, All, codes, Option, Some, None, if◌then◌else◌}
 use Rattle.css_base.specs.Tokens.{Kind}
-use Rattle.css_lex.specs.declared.lexeme_class.LexemeClass.TheVariants as classes
-use Rattle.css_lex.specs.declared.line_kind.LineKind.{LineKind}
-use Rattle.css_lex.specs.declared.line_kind.LineKind.TheVariants as kinds
-use Rattle.css_lex.specs.declared.pieces.Shape.{Shape}
-use Rattle.css_lex.specs.declared.pieces.Shape.TheVariants as shapes
-use Rattle.css_lex.specs.declared.source.SourceByte.{SourceByte}
-use Rattle.css_lex.specs.Source.{begins_with, bytes_of}
-use Rattle.css_lex.specs.Lines.{LogicalLine, logical_lines, kind_of_line}
-use Rattle.css_lex.specs.Lexemes.{Piece, ConsistsOf}
-use Rattle.css_lex.specs.Values.{kind_of_lexeme}
-use Rattle.css_lex.specs.Macros.{Table, may_define, defined, undefined}
+use Rattle.css_lexemes.specs.declared.lexeme_class.LexemeClass.TheVariants as classes
+use Rattle.css_lexemes.specs.declared.line_kind.LineKind.{LineKind}
+use Rattle.css_lexemes.specs.declared.line_kind.LineKind.TheVariants as kinds
+use Rattle.css_lexemes.specs.declared.pieces.Shape.{Shape}
+use Rattle.css_lexemes.specs.declared.pieces.Shape.TheVariants as shapes
+use Rattle.css_lexemes.specs.declared.source.SourceByte.{SourceByte}
+use Rattle.css_lexemes.specs.Source.{begins_with, bytes_of}
+use Rattle.css_lexemes.specs.Lines.{LogicalLine, logical_lines, kind_of_line}
+use Rattle.css_lexemes.specs.Lexemes.{Piece, ConsistsOf}
+use Rattle.css_lexemes.specs.Values.{kind_of_lexeme}
+use Rattle.css_macros.specs.Macros.{Table, may_define, defined, undefined}
 
 -- A logical line and its pieces.
 pub record ReadLine : Type 0 where

@@ -4,16 +4,16 @@ use Rattle.css_base.specs.declared.static_fault.StaticFault.{StaticFault}
 use Rattle.css_base.specs.declared.static_fault.StaticName.{StaticName}
 use Rattle.css_base.specs.declared.static_fault.StaticName.TheVariants as names
 use Rattle.css_lex.specs.declared.breach.Breach.{Breach}
-use Rattle.css_lex.specs.declared.line_kind.LineKind.{LineKind}
-use Rattle.css_lex.specs.declared.line_kind.LineKind.TheVariants as kinds
-use Rattle.css_lex.specs.declared.pieces.Shape.{Shape}
-use Rattle.css_lex.specs.declared.pieces.Shape.TheVariants as shapes
-use Rattle.css_lex.specs.declared.source.SourceByte.{SourceByte}
-use Rattle.css_lex.specs.Source.{begins_with, unspliced, bytes_of}
-use Rattle.css_lex.specs.Comments.{length_before}
-use Rattle.css_lex.specs.Lines.{kind_of_line}
-use Rattle.css_lex.specs.Lexemes.{Piece}
-use Rattle.css_lex.specs.Macros.{Table, may_define}
+use Rattle.css_lexemes.specs.declared.line_kind.LineKind.{LineKind}
+use Rattle.css_lexemes.specs.declared.line_kind.LineKind.TheVariants as kinds
+use Rattle.css_lexemes.specs.declared.pieces.Shape.{Shape}
+use Rattle.css_lexemes.specs.declared.pieces.Shape.TheVariants as shapes
+use Rattle.css_lexemes.specs.declared.source.SourceByte.{SourceByte}
+use Rattle.css_lexemes.specs.Source.{begins_with, unspliced, bytes_of}
+use Rattle.css_lexemes.specs.Comments.{length_before}
+use Rattle.css_lexemes.specs.Lines.{kind_of_line}
+use Rattle.css_lexemes.specs.Lexemes.{Piece}
+use Rattle.css_macros.specs.Macros.{Table, may_define}
 use Rattle.css_lex.specs.Reading.{ReadLine, Definition, solid, read_pieces, kind_of_piece, place_of, first_place, definition_of, undefined_of}
 use Rattle.css_lex.specs.Costs.{Cost, costs, State, at_start, over_lines}
 use Rattle.css_lex.specs.Spelling.{line_at}

@@ -1,11 +1,11 @@
 -- The tokens that a text spells.
 use Rattle.std.specs.Prelude.{ℕ, ◌+◌, List, [], ◌∷◌, ◌++◌, map, take, flat_map, Some, None}
 use Rattle.css_base.specs.Tokens.{Text, Directive, Lexeme, At, Lexemes, End, More}
-use Rattle.css_lex.specs.declared.line_kind.LineKind.{LineKind}
-use Rattle.css_lex.specs.declared.line_kind.LineKind.TheVariants as kinds
-use Rattle.css_lex.specs.Lines.{kind_of_line, newlines}
-use Rattle.css_lex.specs.Lexemes.{Piece}
-use Rattle.css_lex.specs.Macros.{Table, replacement}
+use Rattle.css_lexemes.specs.declared.line_kind.LineKind.{LineKind}
+use Rattle.css_lexemes.specs.declared.line_kind.LineKind.TheVariants as kinds
+use Rattle.css_lexemes.specs.Lines.{kind_of_line, newlines}
+use Rattle.css_lexemes.specs.Lexemes.{Piece}
+use Rattle.css_macros.specs.Macros.{Table, replacement}
 use Rattle.css_lex.specs.Reading.{ReadLine, solid, read_by, kind_of_piece, place_of, end_of, first_place, last_end}
 use Rattle.css_lex.specs.Costs.{at_start, over_lines}
 

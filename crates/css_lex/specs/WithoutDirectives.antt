@@ -2,7 +2,7 @@
 use Rattle.std.specs.Prelude.{◌≡◌, ℕ, Bool, true, false, not, IsTrue, List, ◌∷◌, ◌++◌, All, map, filter}
 use Rattle.css_base.specs.Tokens.{Kind, Lexeme, At, Directive, Text}
 use Rattle.css_lex.specs.Lexing.{SpellsTokens}
-use Rattle.css_lex.specs.Lines.{erased}
+use Rattle.css_lexemes.specs.Lines.{erased}
 
 abbrev pub is_directive_kind : Kind → Bool
 is_directive_kind (Directive words) = true

@@ -1,14 +1,14 @@
 //! Bytes that no text has, and comments that aren't ended.
 ghost use Rattle.std.specs.Prelude.{◌≡◌, ◌≤◌, ◌<◌, ◌++◌, ◌&&◌, ◌==◌, false, length, drop};
-ghost use Rattle.css_lex.specs.Source.{splice_length};
+ghost use Rattle.css_lexemes.specs.Source.{splice_length};
 ghost use Rattle.css_lex.specs.Refusals.{is_bad_byte, is_unended, begins_unended, bad_bytes, unended_comments, byte_breach};
 ghost use Rattle.css_lex.specs.CommentEnd.{plain_bytes, has_end, IsBehind};
-ghost use Rattle.css_lex.specs.Rising.{AreBetween};
+ghost use Rattle.css_lexemes.specs.Rising.{AreBetween};
 ghost use Rattle.css_lex.specs.Found.{IsFound};
 
 use crate::breach::Breach;
-use crate::source::{SourceByte, splice_at};
 use css_base::StaticName;
+use css_lexemes::{SourceByte, splice_at};
 
 /// Whether no text has a byte outside comments.
 fn is_bad(byte: u8) -> bool

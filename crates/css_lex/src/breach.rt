@@ -10,7 +10,7 @@ pub struct Breach {
 }
 
 /// Why a part of a text gives no tokens.
-#[derive(Clone, Copy, PartialEq, Eq, Debug)]
+#[derive(Clone, Copy)]
 pub(crate) enum LexFault {
     /// A rule is broken.
     Breach(Breach),

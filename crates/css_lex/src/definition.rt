@@ -1,17 +1,17 @@
 //! Names and tokens of macros in `#define` and `#undef` lines (C99 6.10.3).
 ghost use Rattle.std.specs.Prelude.{◌≡◌, ◌≤◌, ◌<◌, All, length, drop, map, IfOk, MatchOption};
 ghost use Rattle.css_base.specs.Tokens.{kind_of, lexeme, lexemes};
-ghost use Rattle.css_lex.specs.Longest.{pieces_of};
-ghost use Rattle.css_lex.specs.Macros.{IsPlain};
-ghost use Rattle.css_lex.specs.MacroTokens.{plain_kinds};
+ghost use Rattle.css_lexemes.specs.Longest.{pieces_of};
+ghost use Rattle.css_macros.specs.Macros.{IsPlain};
+ghost use Rattle.css_macros.specs.MacroTokens.{plain_kinds};
 ghost use Rattle.css_lex.specs.Reading.{from_solid, behind_first};
 ghost use Rattle.css_lex.specs.HashLines.{opens, word_name, kind_at, only_name, front_name, behind_name};
 
 use crate::breach::Breach;
-use crate::line_kind::without_blanks;
-use crate::macro_token::MacroToken;
 use crate::words::{LineBytes, Words, piece_from};
 use css_base::{Bytes, NoMemory, Token, TokenKind};
+use css_lexemes::without_blanks;
+use css_macros::MacroToken;
 use std::alloc::Global;
 
 /// The name that a token is.

@@ -1,19 +1,19 @@
 //! The token of a `#pragma css` line.
 ghost use Rattle.std.specs.Prelude.{◌≡◌, ◌+◌, ◌<◌, ◌≤◌, All, length, OnOk, IsErrOf};
 ghost use Rattle.css_base.specs.Tokens.{Directive, At, kind_of, lexeme, lexemes};
-ghost use Rattle.css_lex.specs.LineKinds.{line_kind};
-ghost use Rattle.css_lex.specs.Longest.{pieces_of};
+ghost use Rattle.css_lexemes.specs.LineKinds.{line_kind};
+ghost use Rattle.css_lexemes.specs.Longest.{pieces_of};
 ghost use Rattle.css_lex.specs.Reading.{solid, first_place, last_end};
-ghost use Rattle.css_lex.specs.Rising.{AreBetween};
+ghost use Rattle.css_lexemes.specs.Rising.{AreBetween};
 ghost use Rattle.css_lex.specs.Spelling.{in_order, line_at};
 
 use crate::breach::{Breach, LexFault};
-use crate::counts::{Counts, ExpansionFault};
 use crate::hash_line::hash_place;
-use crate::line_kind::LineKind;
 use crate::numbered::NumberedText;
 use crate::words::{LineBytes, is_white_piece, piece_from};
 use css_base::{Token, TokenKind};
+use css_lexemes::LineKind;
+use css_macros::{Counts, ExpansionFault};
 
 /// Counts a directive's token, or gives this breach where it is one too many.
 pub(crate) fn count_directive(counts: &mut Counts, breach: Breach) -> Result<(), LexFault>

@@ -1,15 +1,13 @@
 //! The replacement of a line's words.
 ghost use Rattle.std.specs.Prelude.{◌≡◌, ◌+◌, ◌<◌, ◌⊎◌, ◌++◌, ◌∷◌, [], length, OnOk, IsErrOf};
 ghost use Rattle.css_base.specs.Tokens.{lexeme, lexemes};
-ghost use Rattle.css_lex.specs.MacroTables.{table_of};
+ghost use Rattle.css_macros.specs.MacroTables.{table_of};
 ghost use Rattle.css_lex.specs.Refusals.{breach, overruns};
 ghost use Rattle.css_lex.specs.Expanded.{replaced_word, expanded, word_cost, word_costs, tokens_among, names_among, IsHead};
 
 use crate::breach::{Breach, LexFault};
-use crate::counts::{Counts, ExpansionFault};
-use crate::expansion::Span;
-use crate::macros::Macros;
 use css_base::{StaticName, Token};
+use css_macros::{Counts, ExpansionFault, Macros, Span};
 use std::alloc::Global;
 
 /// Puts what replaces a word behind tokens, and counts it.

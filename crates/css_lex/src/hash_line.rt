@@ -1,16 +1,16 @@
 //! The `#` of a `#` line (C99 6.10), and what stands behind its first words.
 ghost use Rattle.std.specs.Prelude.{◌≡◌, ◌<◌, ◌≤◌, length, drop};
 ghost use Rattle.std.specs.List.{prefix_len};
-ghost use Rattle.css_lex.specs.LineKinds.{is_blank, line_kind};
-ghost use Rattle.css_lex.specs.Longest.{pieces_of};
+ghost use Rattle.css_lexemes.specs.LineKinds.{is_blank, line_kind};
+ghost use Rattle.css_lexemes.specs.Longest.{pieces_of};
 ghost use Rattle.css_lex.specs.Reading.{solid, first_place, from_solid, behind_first};
 ghost use Rattle.css_lex.specs.Refusals.{breach};
 ghost use Rattle.css_lex.specs.HashLines.{opens};
 
 use crate::breach::Breach;
-use crate::line_kind::{LineKind, without_blanks};
 use crate::words::{LineBytes, piece_from};
 use css_base::StaticName;
+use css_lexemes::{LineKind, without_blanks};
 
 /// How many blank bytes a line begins with.
 fn blanks_in_front(line: &LineBytes) -> usize

@@ -1,26 +1,23 @@
 //! The tokens of a text, or the first rule that it breaks.
 ghost use Rattle.std.specs.Prelude.{◌≡◌, ◌≤◌, [], take, length, IfOk, OnOk, IsErrOf};
 ghost use Rattle.css_base.specs.Tokens.{lexemes};
-ghost use Rattle.css_lex.specs.Source.{bytes_of};
-ghost use Rattle.css_lex.specs.Lines.{newlines, shown_bytes};
+ghost use Rattle.css_lexemes.specs.Source.{bytes_of};
+ghost use Rattle.css_lexemes.specs.Lines.{newlines, shown_bytes};
 ghost use Rattle.css_lex.specs.Spelling.{line_at};
 ghost use Rattle.css_lex.specs.Costs.{at_start};
 ghost use Rattle.css_lex.specs.Refusals.{line_breaches, breaches};
-ghost use Rattle.css_lex.specs.Rising.{AreBetween};
+ghost use Rattle.css_lexemes.specs.Rising.{AreBetween};
 ghost use Rattle.css_lex.specs.Found.{IsFirst};
 ghost use Rattle.css_lex.specs.LexState.{state_of, line_of, read_lines, IsLexed, IsWhole};
 ghost use Rattle.css_lex.specs.Lexing.{longest_text, SpellsTokens, IsRefused};
 
 use crate::breach::{Breach, LexFault};
-use crate::comments::without_comments;
-use crate::counts::Counts;
 use crate::joining::join_strings;
 use crate::line::Brought;
-use crate::macros::Macros;
 use crate::numbered::NumberedText;
-use crate::source::{SourceByte, without_splices};
 use crate::words::LineBytes;
 use css_base::{FrontFault, Line, StaticFault, StaticName, Tokens};
+use css_lexemes::{SourceByte, shown_text};
 use std::alloc::Global;
 
 /// The most bytes of a text.
@@ -85,18 +82,14 @@ fn lex_short(alloc: Global, text: &[u8]) -> Result<Tokens, LexFault>
     ensures ok { IfOk result (λ tokens. SpellsTokens text.now (lexemes tokens.items)) }
     ensures broken { (b : Breach) → IsErrOf result (LexFault.Breach b) → IsFirst b (breaches text.now (read_lines text.now)) }
 {
-    let source = without_splices(alloc, text)?;
-    let shown = without_comments(alloc, source.as_slice())?;
+    let shown = shown_text(alloc, text)?;
     let numbered = NumberedText::new(alloc, text)?;
-    let macros = Macros::new(alloc)?;
-    let mut brought = Brought {
-        macros,
-        counts: Counts::new(),
-        tokens: Vec::new(alloc),
-    };
+    let mut brought = Brought::new(alloc)?;
     if let Err(fault) = read_text(alloc, &numbered, shown.as_slice(), &mut brought) {
         return Err(fault);
     }
+    drop(numbered);
+    drop(shown);
     let tokens = join_strings(alloc, brought.tokens)?;
     Ok(tokens)
 }
@@ -168,6 +161,3 @@ pub fn lex(alloc: Global, text: &[u8]) -> Result<Tokens, FrontFault>
         Err(fault) => Err(front_fault(text, fault)),
     }
 }
-
-#[cfg(test)]
-mod tests;

@@ -1,24 +1,25 @@
 //! The lines of a text, one at a time.
-ghost use Rattle.std.specs.Prelude.{◌≡◌, true, ◌<◌, ◌≤◌, ◌++◌, [], length, OnOk, IsErrOf};
-ghost use Rattle.css_lex.specs.Rising.{AreBetween};
-ghost use Rattle.css_lex.specs.LineKinds.{line_kind};
+ghost use Rattle.std.specs.Prelude.{◌≡◌, true, ◌<◌, ◌≤◌, ◌++◌, [], length, IfOk, OnOk, IsErrOf};
+ghost use Rattle.css_lexemes.specs.Rising.{AreBetween};
+ghost use Rattle.css_lexemes.specs.LineKinds.{line_kind};
+ghost use Rattle.css_base.specs.Tokens.{lexemes};
+ghost use Rattle.css_lex.specs.Costs.{at_start};
 ghost use Rattle.css_lex.specs.Refusals.{line_breaches, bad_bytes, unended_comments};
 ghost use Rattle.css_lex.specs.Found.{IsFirst, IsFound, least_of};
 ghost use Rattle.css_lex.specs.LexState.{state_of, line_of, IsLexed, passes};
 
 use crate::bad_bytes::bad_place;
 use crate::breach::{Breach, LexFault};
-use crate::counts::Counts;
 use crate::definition::{is_function_like, macro_tokens, sole_name, split_name};
 use crate::directive::{count_directive, directive};
 use crate::expanding::expand;
 use crate::hash_line::malformed;
 use crate::joining::join_strings;
-use crate::line_kind::{LineKind, kind_of_line};
-use crate::macros::Macros;
 use crate::numbered::NumberedText;
 use crate::words::{LineBytes, read_words};
-use css_base::Token;
+use css_base::{NoMemory, Token};
+use css_lexemes::{LineKind, kind_of_line};
+use css_macros::{Counts, Macros};
 use std::alloc::Global;
 
 /// What the lines so far brought: macros, counts and tokens.
@@ -82,6 +83,19 @@ fn settled(found: Option<Breach>) -> Result<(), LexFault>
 }
 
 impl Brought {
+    /// What no lines bring: the macros that are there at a text's beginning.
+    pub(crate) fn new(alloc: Global) -> Result<Brought, NoMemory>
+        ensures state { IfOk result (λ brought. state_of brought ≡ at_start) }
+        ensures empty { IfOk result (λ brought. lexemes brought.tokens.items ≡ []) }
+    {
+        let macros = Macros::new(alloc)?;
+        Ok(Brought {
+            macros,
+            counts: Counts::new(),
+            tokens: Vec::new(alloc),
+        })
+    }
+
     /// A line that is no `#` line.
     fn read_text(
         &mut self,

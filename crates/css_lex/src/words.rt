@@ -1,17 +1,15 @@
 //! The words of a line.
 ghost use Rattle.std.specs.Prelude.{◌≡◌, ◌<◌, ◌≤◌, ◌+◌, List, length, drop, option_map, All, IfOk};
 ghost use Rattle.css_base.specs.Tokens.{lexeme, lexemes};
-ghost use Rattle.css_lex.specs.Source.{bytes_of};
-ghost use Rattle.css_lex.specs.Longest.{pieces_of};
+ghost use Rattle.css_lexemes.specs.Source.{bytes_of};
+ghost use Rattle.css_lexemes.specs.Longest.{pieces_of};
 ghost use Rattle.css_lex.specs.Reading.{is_blank_piece, solid};
 ghost use Rattle.css_lex.specs.Words.{IsPieceAt, piece_in, word_of, own_breach, words_of, failure_of, is_kept, skip_behind};
 
 use crate::breach::Breach;
 use crate::numbered::NumberedText;
-use crate::pieces::{Shape, first_piece};
-use crate::source::SourceByte;
-use crate::values::kind_of_lexeme;
 use css_base::{NoMemory, StaticName, Token};
+use css_lexemes::{Shape, SourceByte, first_piece, kind_of_lexeme};
 use std::alloc::Global;
 
 /// A logical line: its bytes with their numbered, and the bytes alone.
@@ -31,7 +29,7 @@ pub(crate) struct Words {
 }
 
 /// A piece of a line, and the index behind it.
-#[derive(Clone, Copy, Debug)]
+#[derive(Clone, Copy)]
 pub(crate) struct LinePiece {
     pub(crate) shape: Shape,
     pub(crate) to: usize,

@@ -8,7 +8,7 @@ use Rattle.css_base.specs.declared.ending.Who.TheVariants.{Main}
 use Rattle.css_io.specs.Changes.{Change}
 use Rattle.css_judged.specs.Judged.{Judged, main_reply, main_after, main_place}
 use Rattle.css_semantics.specs.Memory.{Memory, stack_place, stored}
-use Rattle.css_semantics.specs.Rows.{with_rows}
+use Rattle.css_semantics.specs.WithWindow.{with_rows}
 use Rattle.css_semantics.proofs.StackPlaces.{length-overlaid}
 use Rattle.css_semantics.specs.Units.{Metered, metered, spending}
 use Rattle.css_vm.specs.declared.code.MarkKind.{MarkKind}
@@ -27,7 +27,7 @@ use Rattle.css_main_side.specs.Playing.{Side, Stands, EndsRun}
 use Rattle.css_main_side.specs.Ran.{RanAs}
 use Rattle.css_main_side.specs.declared.ran.Ran.{Ran}
 use Rattle.css_main_side.proofs.Calls.{at_return, at_task_stop, at_refusal}
-use Rattle.css_main_side.proofs.Parts.{ends_so, fails}
+use Rattle.css_main_side.proofs.RunParts.{ends_so, fails}
 use Rattle.css_main_side.proofs.Turns.{Moves, ToEvent, at_event, to_event, at_stop, at_out, at_question, at_start, at_finish, at_barrier, at_second_start, at_needless_finish, at_end}
 
 -- ---- results

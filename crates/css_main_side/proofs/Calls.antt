@@ -1,5 +1,5 @@
 -- A call of a plain task under the rules: its task by itself, and where main goes on.
-use Rattle.std.proofs.Common.{◌≡◌, ℕ, zero, suc, ◌+◌, ◌-◌, ◌%◌, ◌^◌, ◌<◌, ◌≤◌, false, List, [], ◌∷◌, ◌++◌, length, map, fold, Option, Some, None, slice_get, refl, sym, ap, ◌∙◌, subst, arith}
+use Rattle.std.proofs.Common.{◌≡◌, Bool, ℕ, zero, suc, ◌+◌, ◌-◌, ◌%◌, ◌^◌, ◌<◌, ◌≤◌, false, List, [], ◌∷◌, ◌++◌, length, map, fold, Option, Some, None, slice_get, refl, sym, ap, ◌∙◌, subst, arith}
 use Rattle.std.proofs.lemmas.List.{append-nil}
 use Rattle.css_base.specs.Limits.{IsInRange}
 use Rattle.css_base.specs.declared.direction.Direction.TheVariants.{InOut}
@@ -26,13 +26,14 @@ use Rattle.css_semantics.specs.Alone.{outs_after, alone_world}
 use Rattle.css_semantics.specs.Flat.{no_frames, in_memory}
 use Rattle.css_semantics.specs.Memory.{Memory, memory_after, stack_place}
 use Rattle.css_semantics.specs.Pending.{with_argument}
-use Rattle.css_semantics.specs.Rows.{with_window}
+use Rattle.css_semantics.specs.WithWindow.{with_window}
 use Rattle.css_semantics.specs.Rules.{hit, judged_reply}
 use Rattle.css_semantics.specs.Tasks.{plain, use_of, windows, called, inside}
 use Rattle.css_semantics.specs.Units.{with_units}
 use Rattle.css_semantics.specs.Verdict.{verdict_with, judged_in, who_runs, bytes_of_window}
 use Rattle.css_semantics.specs.Worlds.{AreOfMachine}
 use Rattle.css_task.specs.Alone.{End, Outs, Halted, ComesTo}
+use Rattle.css_task.proofs.OneTask.{comes_alone}
 use Rattle.css_vm.specs.declared.code.ArgShape.TheVariants as shapes
 use Rattle.css_vm.specs.declared.machine.Event.TheVariants as events
 use Rattle.css_vm.specs.declared.machine.Submitted.{Submitted}
@@ -42,25 +43,25 @@ use Rattle.css_vm.specs.Machine.{State, Begin, At, Activation, Caller, Halt, IsO
 use Rattle.css_vm.specs.Soundness.{Spot, IsSound}
 use Rattle.css_main_side.specs.Calls.{PointsTo, IsAllowed, IsRecordOf, TaskEnds, TaskReturns, TaskStops, IsRefused, behind_task}
 use Rattle.css_main_side.specs.Events.{with_answer}
-use Rattle.css_main_side.specs.Plain.{IsPlain, HasPlainTasks}
+use Rattle.css_main_side.specs.Plain.{IsPlainShape, HasPlainTasks}
 use Rattle.css_main_side.specs.Playing.{main_frame, Side, Stands}
 use Rattle.css_main_side.proofs.Turns.{Moves, ComesToEnd, ToEvent}
 
 -- ---- the call
 
 -- a call with one pointer to four bytes
-abbrev pub plain_call : (function base place : ℕ) → Call
-plain_call function base place = record { function = function; scalars = []; arguments = plain_argument base ∷ []; stack_place = place }
+abbrev pub plain_call : (function base place : ℕ) → (is_high : Bool) → Call
+plain_call function base place is_high = record { function = function; scalars = []; arguments = plain_argument base ∷ []; stack_place = place; is_high = is_high }
 
-call_by : (function : ℕ) (parts : List _) (parameters arguments dimensions : List ℕ) (base place : ℕ) → parts ≡ shapes.Window InOut 4 0 false ∷ [] → parameters ≡ 4 ∷ [] → arguments ≡ base ∷ [] → base < 2 ^ 32
-    → record { function = function; scalars = scalars_of parts (narrowed_to parameters arguments); arguments = pointers_of parts (narrowed_to parameters arguments) dimensions; stack_place = place } ≡ plain_call function base place
-call_by function parts parameters arguments dimensions base place one four is fits =
+call_by : (function : ℕ) (parts : List _) (parameters arguments dimensions : List ℕ) (base place : ℕ) (is_high : Bool) → parts ≡ shapes.Window InOut 4 0 false ∷ [] → parameters ≡ 4 ∷ [] → arguments ≡ base ∷ [] → base < 2 ^ 32
+    → record { function = function; scalars = scalars_of parts (narrowed_to parameters arguments); arguments = pointers_of parts (narrowed_to parameters arguments) dimensions; stack_place = place; is_high = is_high } ≡ plain_call function base place is_high
+call_by function parts parameters arguments dimensions base place is_high one four is fits =
     let low : base % 2 ^ 32 ≡ base = omega arith in
-    rw (one, four, is) (ap (λ b. plain_call function b place) low)
+    rw (one, four, is) (ap (λ b. plain_call function b place is_high) low)
 
-pub call_is : (f : Routine) (s : Shape) (function base place : ℕ) (arguments dimensions : List ℕ) → IsPlain f s → arguments ≡ base ∷ [] → base < 2 ^ 32
-    → call_of function f s arguments dimensions place ≡ plain_call function base place
-call_is f s function base place arguments dimensions p is fits = call_by function s.arguments f.parameters arguments dimensions base place p.arguments p.parameters is fits
+pub call_is : (f : Routine) (s : Shape) (function base place : ℕ) (arguments dimensions : List ℕ) → IsPlainShape f s → arguments ≡ base ∷ [] → base < 2 ^ 32
+    → call_of function f s arguments dimensions place ≡ plain_call function base place s.high
+call_is f s function base place arguments dimensions p is fits = call_by function s.arguments f.parameters arguments dimensions base place s.high p.arguments p.parameters is fits
 
 -- the reply of a world that judges says that no rule is broken
 none_broken : (o : Option Rule) (reply : Reply) (value : ℕ) → judged_reply o reply ≡ Says value → o ≡ None
@@ -73,13 +74,13 @@ module _ (limits : Limits) (code : Code) (plans : List (List Spot)) (sound : IsS
   abbrev place : ℕ
   place = base_of side.machine
 
-  is_plain : IsPlain f shape
+  is_plain : IsPlainShape f shape
   is_plain = tasks s.function f shape function task
 
   abbrev the_call : Call
   the_call = call_of s.function f shape s.arguments.items s.dims.items (base_of side.machine)
 
-  call_same : the_call ≡ plain_call s.function base place
+  call_same : the_call ≡ plain_call s.function base place shape.high
   call_same = call_is f shape s.function base place s.arguments.items s.dims.items is_plain to.argument to.fits
 
   abbrev at_call : Tape
@@ -115,13 +116,14 @@ module _ (limits : Limits) (code : Code) (plans : List (List Spot)) (sound : IsS
     place_is = allowed.place ∙ ap stack_place memory_same;
   }
 
-  module _ (r : TaskRecord) (of : IsRecordOf r s side.called (main_place side.space.state) base) where
+  module _ (r : TaskRecord) (of : IsRecordOf r code s side.called (main_place side.space.state) base) where
     pub of_call : IsOfCall r the_call s.line
     of_call = record {
       function = of.function;
       scalars = of.scalars ∙ sym (ap (λ (c : Call). c.scalars) call_same);
       windows = of.windows ∙ sym (ap windows call_same);
       place = of.place_is ∙ sym allowed.place;
+      high = of.high f shape function task;
       line = of.line;
     }
 
@@ -248,7 +250,7 @@ module _ (limits : Limits) (code : Code) (plans : List (List Spot)) (sound : IsS
     inputs = bytes_of_window mid.space.state.memory (plain base 4) ∷ []
 
     task_end : ComesTo code ends.rec shape inputs limits end
-    task_end = ends.alone f shape limits (record { function = ap (λ k. slice_get code.functions k) ends.is_of.function ∙ t.does.3; task = t.does.4 }) refl
+    task_end = comes_alone code ends.rec inputs limits.task_units end ends.alone f shape limits (record { function = ap (λ k. slice_get code.functions k) ends.is_of.function ∙ t.does.3; task = t.does.4 }) refl
 
     abbrev given : Tape
     given = at_call limits code plans sound tasks in_range mid t.there s base ends.to ends.allowed f shape t.does.3 t.does.4

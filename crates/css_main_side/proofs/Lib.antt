@@ -2,8 +2,8 @@ pub mod Sinks
 pub mod Exec
 pub mod Turns
 pub mod Calls
-pub mod Parts
+pub mod RunParts
 pub mod Yards
+pub mod OneByOne
 pub mod TaskCalls
 pub mod Arms
-pub mod Rows

@@ -1,18 +1,22 @@
 -- The task of a call that breaks no rule.
 use Rattle.std.proofs.Common.{◌≡◌, ℕ, ◌%◌, ◌^◌, ◌<◌, ◌≤◌, List, [], ◌∷◌, length, Some, None, slice_get, refl, sym, ap, ◌∙◌, subst, arith}
+use Rattle.std.proofs.lemmas.Bool.Decides.{nat_tests}
 use Rattle.css_base.specs.Limits.{IsInRange}
 use Rattle.css_base.specs.declared.limits.Limits.{Limits}
 use Rattle.css_io.specs.Changes.{Change}
-use Rattle.css_judged.specs.Judged.{broken_by_call, plain_argument, main_place}
+use Rattle.css_judged.specs.Judged.{call_checks, broken_by_call, plain_argument, main_place}
 use Rattle.css_record.specs.declared.task_record.TaskRecord.{TaskRecord}
 use Rattle.css_record.specs.Records.{FitsCode}
 use Rattle.css_record.specs.Records as records
 use Rattle.css_semantics.specs.Alone.{outs_after}
 use Rattle.css_semantics.specs.Dialogue.{Tape}
 use Rattle.css_semantics.specs.Memory.{Memory}
+use Rattle.css_semantics.specs.Rules.{room_of}
+use Rattle.css_semantics.proofs.Checks.{are_kept}
 use Rattle.css_semantics.specs.Tasks.{Use, plain}
 use Rattle.css_semantics.specs.Verdict.{bytes_of_window}
 use Rattle.css_task.specs.Alone.{End, Outs, Halted, IsAlone, TaskOf}
+use Rattle.css_task.proofs.OneTask.{comes_alone}
 use Rattle.css_vm.specs.declared.machine.Submitted.{Submitted}
 use Rattle.css_vm.specs.Code.{Code, narrowed_to}
 use Rattle.css_vm.specs.Events.{IsWhole, base_of}
@@ -43,7 +47,7 @@ module _ (limits : Limits) (code : Code) (plans : List (List Spot)) (sound : IsS
     (side : Side) (st : Stands limits side) (s : Submitted) (base : ℕ) (to : PointsTo s base) (whole : IsWhole code s)
     (none : broken_by_call limits side.space.state (plain_argument base ∷ []) ≡ None) (place : base_of side.machine ≡ main_place side.space.state)
     (deep : length side.space.state.memory.stack ≤ 1048576) (many : side.space.state.memory.calls ≤ 32768)
-    (r : TaskRecord) (of : IsRecordOf r s side.called (main_place side.space.state) base) where
+    (r : TaskRecord) (of : IsRecordOf r code s side.called (main_place side.space.state) base) where
   allowed : IsAllowed limits side base
   allowed = record { none = none; place = place; within = (deep, many) }
 
@@ -58,10 +62,17 @@ module _ (limits : Limits) (code : Code) (plans : List (List Spot)) (sound : IsS
   of_task : TaskOf code r whole.function whole.shape
   of_task = record { function = ap (λ k. slice_get code.functions k) of.function ∙ whole.is_there; task = whole.is_task }
 
-  pub task_may_run : (its_code : Code) (bytes : List ℕ) → its_code ≡ code → bytes ≡ bytes_of_window side.space.state.memory (plain base 4) → MayRun its_code r bytes
-  task_may_run its_code bytes same is =
-      subst (λ c. MayRun c r bytes) (sym same)
-      (may_run code tasks r s side.called (main_place side.space.state) base of fits_code bytes (ap length is ∙ four_bytes side.space.state.memory base))
+  -- the local store has room for it
+  room : room_of (plain base 4 ∷ []) ≤ limits.local_store
+  room =
+      let fits = (are_kept (call_checks limits side.space.state (plain_argument base ∷ [])) none).1.0 in
+      grind (arith, nat_tests)
+
+  pub task_may_run : (its_code : Code) (its_limits : Limits) (bytes : List ℕ) → its_code ≡ code → its_limits ≡ limits → bytes ≡ bytes_of_window side.space.state.memory (plain base 4) → MayRun its_code its_limits r bytes
+  task_may_run its_code its_limits bytes same limits_are is =
+      subst (λ c. MayRun c its_limits r bytes) (sym same)
+      (subst (λ l. MayRun code l r bytes) (sym limits_are)
+      (may_run code tasks r s side.called (main_place side.space.state) base of fits_code bytes (ap length is ∙ four_bytes side.space.state.memory base) limits room))
 
   module _ (its_code : Code) (units : ℕ) (bytes : List ℕ) (same : its_code ≡ code) (units_are : units ≡ limits.task_units)
       (is : bytes ≡ bytes_of_window side.space.state.memory (plain base 4)) where
@@ -79,7 +90,8 @@ module _ (limits : Limits) (code : Code) (plans : List (List Spot)) (sound : IsS
     pub out_length : (value : List ℕ) → ComesAlone its_code r bytes units value → length value ≡ 4
     unfolding ends_as
     out_length value comes =
-        let end = (ends_as (Outs comes.outs) comes.alone).alone whole.function whole.shape limits of_task refl in
+        let end =
+        comes_alone code r (bytes_of_window side.space.state.memory (plain base 4) ∷ []) limits.task_units (Outs comes.outs) (ends_as (Outs comes.outs) comes.alone).alone whole.function whole.shape limits of_task refl in
         out_by (records.uses whole.shape r) (bytes_of_window side.space.state.memory (plain base 4) ∷ []) r.stack_place end.2 base comes.outs value its_uses end.4 comes.out
 
     pub task_returns : (value : List ℕ) (new : Side) → ComesAlone its_code r bytes units value → new ≡ behind_task side base value → TaskReturns limits code s side new

@@ -1,13 +1,15 @@
 -- One task on a yard that has no other.
-use Rattle.std.proofs.Common.{◌≡◌, ℕ, zero, suc, List, [], ◌∷◌, ◌++◌, length, map, Some, Contains, slice_get, refl, sym, ap, ◌∙◌, subst, arith}
+use Rattle.std.proofs.Common.{◌≡◌, ◌≤◌, ℕ, zero, suc, List, [], ◌∷◌, ◌++◌, length, map, Some, Contains, slice_get, refl, sym, ap, ◌∙◌, subst, arith}
 use Rattle.std.proofs.lemmas.List.Elements.{All-nil, All-cons, All-same}
 use Rattle.css_base.specs.declared.direction.Direction.TheVariants.{InOut}
+use Rattle.css_base.specs.declared.limits.Limits.{Limits}
 use Rattle.css_record.specs.declared.task_record.TaskRecord.{TaskRecord}
 use Rattle.css_record.specs.declared.version.VersionName.{VersionName}
 use Rattle.css_record.specs.declared.version.VersionName.TheVariants as names
 use Rattle.css_record.specs.Records.{FitsCode, IsPlainUse}
 use Rattle.css_record.specs.Records as records
 use Rattle.css_record.specs.Windows.{window}
+use Rattle.css_semantics.specs.Rules.{room_of}
 use Rattle.css_semantics.specs.Tasks.{Use, plain}
 use Rattle.css_task.specs.Alone.{End, Outs, Halted, IsAlone, TaskOf}
 use Rattle.css_vm.specs.declared.machine.Submitted.{Submitted}
@@ -18,7 +20,7 @@ use Rattle.css_yard.specs.declared.answer.YardAnswer.{YardAnswer}
 use Rattle.css_yard.specs.declared.answer.YardAnswer.TheVariants as answers
 use Rattle.css_main_side.specs.Alone.{MayRun, ComesAlone, StopsAlone}
 use Rattle.css_main_side.specs.Calls.{IsRecordOf}
-use Rattle.css_main_side.specs.Plain.{IsPlain, HasPlainTasks}
+use Rattle.css_main_side.specs.Plain.{IsPlainShape, HasPlainTasks}
 
 -- the one element of a list
 one_contained : {X : Type 0} (x y : X) → Contains (x ∷ []) y → y ≡ x
@@ -70,7 +72,10 @@ module _ (code : Code) (units : ℕ) (submits : List Submit) where
       let none : versions ≡ [] = cc in
       (x, ap (λ rest. x ∷ rest) (no_values values none), made_value number value is)
 
-module _ (code : Code) (units : ℕ) (r : TaskRecord) (bytes : List ℕ) (may : MayRun code r bytes) where
+module _ (code : Code) (limits : Limits) (r : TaskRecord) (bytes : List ℕ) (may : MayRun code limits r bytes) where
+  abbrev units : ℕ
+  units = limits.task_units
+
   abbrev submit : Submit
   submit = record { rec = r; given = bytes ∷ [] }
 
@@ -106,7 +111,7 @@ module _ (code : Code) (units : ℕ) (r : TaskRecord) (bytes : List ℕ) (may : 
 abbrev pub its_use : (base : ℕ) → Use
 its_use base = record { window = plain base 4; direction = InOut }
 
-use_by : (r : TaskRecord) (f : Routine) (s : Shape) (base : ℕ) → IsPlain f s → map window r.windows.items ≡ plain base 4 ∷ [] → records.uses s r ≡ its_use base ∷ []
+use_by : (r : TaskRecord) (f : Routine) (s : Shape) (base : ℕ) → IsPlainShape f s → map window r.windows.items ≡ plain base 4 ∷ [] → records.uses s r ≡ its_use base ∷ []
 use_by r f s base p windows = rw (p.arguments, windows) refl
 
 -- what is at a place of a list of one
@@ -118,8 +123,8 @@ none_last : (last : Submit) (before : List Submit) → [] ≡ before ++ last ∷
 none_last last [] is = cc
 none_last last (x ∷ before) is = cc
 
-module _ (code : Code) (tasks : HasPlainTasks code) (r : TaskRecord) (s : Submitted) (number place base : ℕ) (of : IsRecordOf r s number place base)
-    (fits : FitsCode code r) (bytes : List ℕ) (four : length bytes ≡ 4) where
+module _ (code : Code) (tasks : HasPlainTasks code) (r : TaskRecord) (s : Submitted) (number place base : ℕ) (of : IsRecordOf r code s number place base)
+    (fits : FitsCode code r) (bytes : List ℕ) (four : length bytes ≡ 4) (limits : Limits) (room : room_of (plain base 4 ∷ []) ≤ limits.local_store) where
   uses_of : (f : Routine) (shape : Shape) → TaskOf code r f shape → records.uses shape r ≡ its_use base ∷ []
   uses_of f shape of_task = use_by r f shape base (tasks r.function f shape of_task.function of_task.task) of.windows
 
@@ -139,10 +144,11 @@ module _ (code : Code) (tasks : HasPlainTasks code) (r : TaskRecord) (s : Submit
   differ : (a b : VersionName) → a ≡ names.Given 0 → DifferAsInputs a b
   differ a b is = subst (λ x. DifferAsInputs x b) (sym is) tt
 
-  may_submit : MaySubmit code [] r (bytes ∷ [])
+  may_submit : MaySubmit code limits [] r (bytes ∷ [])
   may_submit = record {
     fits = fits;
     plain = λ f shape of_task. All-same IsPlainUse (records.uses shape r) (its_use base ∷ []) (uses_of f shape of_task) (All-cons IsPlainUse (its_use base) [] (refl, refl) (All-nil IsPlainUse));
+    room = subst (λ ws. room_of ws ≤ limits.local_store) (sym of.windows) room;
     few = omega arith;
     next = λ last before is. absurd (none_last last before is);
     inputs = λ shape f of_task k version u is used. fits_input version u (input_at k version is) (read_at shape f of_task k u used);
@@ -150,7 +156,7 @@ module _ (code : Code) (tasks : HasPlainTasks code) (r : TaskRecord) (s : Submit
     different = λ shape f of_task a b u v are other. differ a b (input_at are.j a are.first);
   }
 
-  pub may_run : MayRun code r bytes
+  pub may_run : MayRun code limits r bytes
   may_run = record {
     may = may_submit;
     inputs = of.inputs;

@@ -13,13 +13,13 @@ use Rattle.css_record.specs.declared.task_record.TaskRecord.{TaskRecord}
 use Rattle.css_record.specs.declared.version.VersionName.TheVariants.{Given}
 use Rattle.css_record.specs.Windows.{window}
 use Rattle.css_semantics.specs.Pending.{with_argument}
-use Rattle.css_semantics.specs.Rows.{with_window}
+use Rattle.css_semantics.specs.WithWindow.{with_window}
 use Rattle.css_semantics.specs.Tasks.{plain}
 use Rattle.css_semantics.specs.Units.{with_units}
 use Rattle.css_semantics.specs.Verdict.{bytes_of_window}
 use Rattle.css_task.specs.Alone.{End, Outs, Halted, IsAlone}
 use Rattle.css_vm.specs.declared.machine.Submitted.{Submitted}
-use Rattle.css_vm.specs.Code.{Code}
+use Rattle.css_vm.specs.Code.{Routine, Shape, Code}
 use Rattle.css_vm.specs.Events.{base_of}
 use Rattle.css_yard.specs.declared.answer.YardAnswer.{YardAnswer}
 use Rattle.css_yard.specs.declared.answer.YardAnswer.TheVariants as answers
@@ -40,14 +40,15 @@ pub record IsAllowed (limits : Limits) (side : Side) (base : ℕ) : Type 0 where
   pub within : IsWithin side.space.state.memory
 
 -- The record of the call: its number is how many tasks were called before, its window the argument's four bytes, and its input the
--- one that is given with it.
-pub record IsRecordOf (r : TaskRecord) (s : Submitted) (number place base : ℕ) : Type 0 where
+-- one that is given with it. It goes before others where its function does.
+pub record IsRecordOf (r : TaskRecord) (code : Code) (s : Submitted) (number place base : ℕ) : Type 0 where
   pub number_is : r.number ≡ number
   pub function : r.function ≡ s.function
   pub scalars : r.scalars.items ≡ []
   pub windows : map window r.windows.items ≡ plain base 4 ∷ []
   pub place_is : r.stack_place ≡ place
   pub inputs : r.inputs.items ≡ Given 0 ∷ []
+  pub high : (f : Routine) (shape : Shape) → slice_get code.functions s.function ≡ Some f → f.task ≡ Some shape → r.high ≡ shape.high
   pub line : r.line ≡ s.line
 
 -- The task of the call by itself, over what main's memory holds, comes to this end.
@@ -55,7 +56,7 @@ pub record TaskEnds (limits : Limits) (code : Code) (s : Submitted) (side : Side
   pub to : PointsTo s base
   pub allowed : IsAllowed limits side base
   pub rec : TaskRecord
-  pub is_of : IsRecordOf rec s side.called (main_place side.space.state) base
+  pub is_of : IsRecordOf rec code s side.called (main_place side.space.state) base
   pub alone : IsAlone code rec (bytes_of_window side.space.state.memory (plain base 4) ∷ []) limits.task_units end
 
 -- behind a call: main's memory has the task's out, and the object is pending

@@ -5,9 +5,9 @@ use Rattle.css_vm.specs.declared.code.ArgShape.TheVariants as shapes
 use Rattle.css_vm.specs.Code.{Routine, Shape, Code}
 
 -- The task has one parameter, a pointer to four bytes that it reads and writes.
-pub record IsPlain (f : Routine) (s : Shape) : Type 0 where
+pub record IsPlainShape (f : Routine) (s : Shape) : Type 0 where
   pub parameters : f.parameters ≡ 4 ∷ []
   pub arguments : s.arguments ≡ shapes.Window InOut 4 0 false ∷ []
 
 abbrev pub HasPlainTasks : Code → Type 0
-HasPlainTasks code = (k : ℕ) (f : Routine) (s : Shape) → slice_get code.functions k ≡ Some f → f.task ≡ Some s → IsPlain f s
+HasPlainTasks code = (k : ℕ) (f : Routine) (s : Shape) → slice_get code.functions k ≡ Some f → f.task ≡ Some s → IsPlainShape f s

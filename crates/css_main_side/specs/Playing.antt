@@ -1,8 +1,9 @@
 -- Main's run over a yard, against the verdict on its code.
-use Rattle.std.specs.Prelude.{◌≡◌, ◌≤◌, ℕ, ℤ, Bool, List, [], ◌++◌, Option, Some, slice_get}
+use Rattle.std.specs.Prelude.{◌≡◌, ◌≤◌, ℕ, ℤ, Bool, ◌⊎◌, List, [], ◌∷◌, ◌++◌, length, Option, Some, slice_get}
 use Rattle.css_base.specs.declared.limits.Limits.{Limits}
 use Rattle.css_io.specs.Changes.{Change, Got}
 use Rattle.css_judged.specs.Judged.{Judged, IsMainAt}
+use Rattle.css_record.specs.declared.task_record.TaskRecord.{TaskRecord}
 use Rattle.css_semantics.specs.Dialogue.{Tape, Outcome, Goes, Stops, output, then_do}
 use Rattle.css_semantics.specs.Flat.{no_frames}
 use Rattle.css_semantics.specs.Tasks.{is_started, called}
@@ -26,18 +27,32 @@ pub record ComesToVerdict (limits : Limits) (code : Code) (v : Verdict) : Type 0
   pub comes : target (judged_in limits) code steps ≡ halted outcome
   pub is : verdict (no_frames limits.memory) outcome ≡ Some v
 
--- A yard of this code and these units that has had no call.
-pub record IsFresh (code : Code) (units : ℕ) (its_code : Code) (its_units : ℕ) (state : yards.State) : Type 0 where
+-- A yard of this code and these limits that has had no call.
+pub record IsFresh (code : Code) (limits : Limits) (its_code : Code) (its_limits : Limits) (state : yards.State) : Type 0 where
   pub code_is : its_code ≡ code
-  pub units_are : its_units ≡ units
+  pub limits_are : its_limits ≡ limits
   pub state_is : state ≡ yards.fresh
 
--- A yard of this code and these units that takes calls and has no task that isn't settled.
-pub record IsReady (code : Code) (units : ℕ) (its_code : Code) (its_units : ℕ) (state : yards.State) : Type 0 where
+-- Each task is settled by itself: the part of a number is the record of the task of that number.
+abbrev pub AreOneByOne : (parts : List (List TaskRecord)) → Type 0
+AreOneByOne parts = (k : ℕ) (part : List TaskRecord) → slice_get parts k ≡ Some part → (r : TaskRecord) × (part ≡ r ∷ []) × (r.number ≡ k)
+
+-- A yard of this code and these limits that takes calls, has no task that isn't settled, and has had so many.
+pub record IsReady (code : Code) (limits : Limits) (called : ℕ) (its_code : Code) (its_limits : Limits) (state : yards.State) : Type 0 where
   pub code_is : its_code ≡ code
-  pub units_are : its_units ≡ units
+  pub limits_are : its_limits ≡ limits
   pub takes_calls : state.phase ≡ yards.Open
   pub settled : state.submits ≡ []
+  pub parts : AreOneByOne state.parts
+  pub many : length state.parts ≡ called
+
+-- What a run leaves of its yard: the code and the limits are as they were, nothing is left that isn't settled, unless the yard takes
+-- nothing any more, and each task was settled by itself.
+pub record IsLeft (code : Code) (limits : Limits) (its_code : Code) (its_limits : Limits) (state : yards.State) : Type 0 where
+  pub code_is : its_code ≡ code
+  pub limits_are : its_limits ≡ limits
+  pub settled : (state.phase ≡ yards.Closed) ⊎ (state.submits ≡ [])
+  pub parts : AreOneByOne state.parts
 
 -- the bytes of main's frame
 abbrev pub main_frame : Code → ℕ

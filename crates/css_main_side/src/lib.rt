@@ -6,8 +6,6 @@ mod main_run;
 mod pending;
 mod ran;
 mod tasks;
-#[cfg(test)]
-mod tests;
 
 pub use main_run::play;
 pub use pending::Pending;

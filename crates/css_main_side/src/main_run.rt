@@ -1,5 +1,5 @@
 //! Main's run over a yard.
-ghost use Rattle.std.specs.Prelude.{◌≡◌, ◌≤◌, ◌<◌, false, [], ◌∷◌, ◌++◌, List, length, Some, None, slice_get, IfSome, IfNone, IfOk, OnOk, IfErr};
+ghost use Rattle.std.specs.Prelude.{◌≡◌, ◌≤◌, ◌<◌, false, [], ◌∷◌, ◌++◌, List, length, Some, None, slice_get, IfSome, IfNone, IfOk, OnOk, OnErr, IfErr};
 ghost use Rattle.css_base.specs.Limits.{IsInRange};
 ghost use Rattle.css_io.specs.Changes.{change};
 ghost use Rattle.css_judged.specs.Judged.{main_place, broken_by_call, plain_argument};
@@ -7,6 +7,7 @@ ghost use Rattle.css_semantics.specs.Flat.{no_frames};
 ghost use Rattle.css_semantics.specs.Verdict.{Verdict};
 ghost use Rattle.css_semantics.specs.Units.{with_units};
 ghost use Rattle.css_vm.specs.Code.{Routine, code_of};
+ghost use Rattle.css_vm.specs.Due.{due_at, TakesAnswer};
 ghost use Rattle.css_vm.specs.Events.{IsStacked, IsOwedAt, IsWhole, base_of};
 ghost use Rattle.css_vm.specs.Machine.{Begin, IsOwed, entry_line};
 ghost use Rattle.css_vm.specs.Soundness.{Spot, IsSound, Fits};
@@ -14,7 +15,7 @@ ghost use Rattle.css_main_side.specs.Calls.{PointsTo, CallEnds, TaskReturns, Ans
 ghost use Rattle.css_main_side.specs.Events.{with_answer, Marked, MarkEnds, left_with, finished_space, reply_to_leaving};
 ghost use Rattle.css_main_side.specs.Pending.{Passes};
 ghost use Rattle.css_main_side.specs.Plain.{HasPlainTasks};
-ghost use Rattle.css_main_side.specs.Playing.{ComesToVerdict, IsFresh, IsReady, Stands, GoesOn, EndsRun};
+ghost use Rattle.css_main_side.specs.Playing.{ComesToVerdict, IsFresh, IsReady, IsLeft, Stands, GoesOn, EndsRun};
 ghost use Rattle.css_main_side.specs.Ran.{RanAs, Fails};
 ghost use Rattle.css_main_side.specs.Sides.{side};
 
@@ -26,7 +27,7 @@ use css_base::{Ending, Limits, Line, NoMemory, Rule, Stop, Who};
 use css_io::Sink;
 use css_judged::JudgedMemory;
 use css_record::Window;
-use css_vm::{Code, Event, Machine, MarkKind, Space, Submitted};
+use css_vm::{Code, Due, Event, Machine, MarkKind, Space, Submitted};
 use css_yard::{Yard, YardAnswer};
 use std::alloc::Global;
 
@@ -44,10 +45,12 @@ pub(crate) struct Main {
 /// Runs main of code whose tasks are given one pointer to four bytes that they read and write. A call of a task is submitted to the
 /// yard with a copy of the object's bytes, the generation is settled, and the task's out is written back, so that main's memory is
 /// always that of program order. Output goes to the sink in pieces of at most 65,536 bytes; all that main wrote before a stop is passed
-/// on too. What comes of the run is the verdict on the code: its output, and its ending.
+/// on too. What comes of the run is the verdict on the code: its output, and its ending. Each task is a generation of the yard by
+/// itself; none is left that isn't settled, unless the yard refused to settle one.
 ///
 /// `WriteFault` only where the sink's count rose, and `NoMemory`, which comes also where 2^64 - 1 tasks were called, or 2^64 - 1 events
 /// come before the next unit is taken: a prefix of the output was passed on then.
+#[tactic(auto, using(crate::proofs::OneByOne::left_fresh))]
 pub fn play<Y: Yard, O: Sink>(
     alloc: Global,
     code: &Code,
@@ -58,8 +61,9 @@ pub fn play<Y: Yard, O: Sink>(
     requires sound { (plans : List (List Spot)) × IsSound (code_of code.now) plans }
     requires plain { HasPlainTasks (code_of code.now) }
     requires in_range { IsInRange limits.now }
-    requires fresh { IsFresh (code_of code.now) limits.now.task_units (Y.code yard.old) (Y.units yard.old) (Y.state yard.old) }
-    ensures { (v : Verdict) → ComesToVerdict limits.now (code_of code.now) v → RanAs v.ending v.output (change O.written O.faults out.old out.new) result }
+    requires fresh { IsFresh (code_of code.now) limits.now (Y.code yard.old) (Y.limits yard.old) (Y.state yard.old) }
+    ensures verdict { (v : Verdict) → ComesToVerdict limits.now (code_of code.now) v → RanAs v.ending v.output (change O.written O.faults out.old out.new) result }
+    ensures yard { IsLeft (code_of code.now) limits.now (Y.code yard.new) (Y.limits yard.new) (Y.state yard.new) }
 {
     let Ok(mut pending) = Pending::new(alloc) else {
         return Ran::NoMemory;
@@ -79,7 +83,8 @@ impl Main {
     fn new(alloc: Global, code: &Code, limits: &Limits) -> Result<Main, NoMemory>
         requires sound { (plans : List (List Spot)) × IsSound (code_of code.now) plans }
         requires in_range { IsInRange limits.now }
-        ensures machine { IfOk result (λ m. m.machine ≡ Begin code.now.main [] (entry_line (slice_get (code_of code.now).functions code.now.main))) }
+        ensures machine { IfOk result (λ m. m.machine.state ≡ Begin code.now.main [] (entry_line (slice_get (code_of code.now).functions code.now.main))) }
+        ensures due { IfOk result (λ m. m.machine.due ≡ Due.Run) }
         ensures memory { IfOk result (λ m. m.memory ≡ record { memory = no_frames limits.now.memory; objects = [] }) }
         ensures units { IfOk result (λ m. m.units ≡ limits.now.main_units) }
         ensures not_started { IfOk result (λ m. m.is_started ≡ false) }
@@ -109,16 +114,19 @@ impl Main {
         requires plain { HasPlainTasks (code_of code.now) }
         requires in_range { IsInRange limits.now }
         requires stands { Stands limits.now (side self.old) }
-        requires fits { Fits (code_of code.now) self.old.machine }
-        requires stacked { IsStacked (code_of code.now) (main_place self.old.memory) self.old.machine }
-        requires ready { IsReady (code_of code.now) limits.now.task_units (Y.code yard.old) (Y.units yard.old) (Y.state yard.old) }
+        requires due { self.old.machine.due ≡ Due.Run }
+        requires fits { Fits (code_of code.now) self.old.machine.state }
+        requires stacked { IsStacked (code_of code.now) (main_place self.old.memory) self.old.machine.state }
+        requires ready { IsReady (code_of code.now) limits.now self.old.called (Y.code yard.old) (Y.limits yard.old) (Y.state yard.old) }
         ensures goes_on { IfNone result (GoesOn limits.now (code_of code.now) (side self.old) (side self.new) pending.old pending.new (change O.written O.faults out.old out.new)) }
         ensures stands { IfNone result (Stands limits.now (side self.new)) }
-        ensures fits { IfNone result (Fits (code_of code.now) self.new.machine) }
-        ensures stacked { IfNone result (IsStacked (code_of code.now) (main_place self.new.memory) self.new.machine) }
-        ensures ready { IfNone result (IsReady (code_of code.now) limits.now.task_units (Y.code yard.new) (Y.units yard.new) (Y.state yard.new)) }
+        ensures due { IfNone result (self.new.machine.due ≡ Due.Run) }
+        ensures fits { IfNone result (Fits (code_of code.now) self.new.machine.state) }
+        ensures stacked { IfNone result (IsStacked (code_of code.now) (main_place self.new.memory) self.new.machine.state) }
+        ensures ready { IfNone result (IsReady (code_of code.now) limits.now self.new.called (Y.code yard.new) (Y.limits yard.new) (Y.state yard.new)) }
         ensures fewer { IfNone result (self.new.units < self.old.units) }
         ensures ends { IfSome result (EndsRun limits.now (code_of code.now) (side self.old) pending.old (change O.written O.faults out.old out.new)) }
+        ensures left { IfSome result (λ _. IsLeft (code_of code.now) limits.now (Y.code yard.new) (Y.limits yard.new) (Y.state yard.new)) }
     {
         let before = self.units;
         for _ in 0..u64::MAX {
@@ -146,15 +154,18 @@ impl Main {
         requires plain { HasPlainTasks (code_of code.now) }
         requires in_range { IsInRange limits.now }
         requires stands { Stands limits.now (side self.old) }
-        requires fits { Fits (code_of code.now) self.old.machine }
-        requires stacked { IsStacked (code_of code.now) (main_place self.old.memory) self.old.machine }
-        requires ready { IsReady (code_of code.now) limits.now.task_units (Y.code yard.old) (Y.units yard.old) (Y.state yard.old) }
+        requires due { self.old.machine.due ≡ Due.Run }
+        requires fits { Fits (code_of code.now) self.old.machine.state }
+        requires stacked { IsStacked (code_of code.now) (main_place self.old.memory) self.old.machine.state }
+        requires ready { IsReady (code_of code.now) limits.now self.old.called (Y.code yard.old) (Y.limits yard.old) (Y.state yard.old) }
         ensures goes_on { IfNone result (GoesOn limits.now (code_of code.now) (side self.old) (side self.new) pending.old pending.new (change O.written O.faults out.old out.new)) }
         ensures stands { IfNone result (Stands limits.now (side self.new)) }
-        ensures fits { IfNone result (Fits (code_of code.now) self.new.machine) }
-        ensures stacked { IfNone result (IsStacked (code_of code.now) (main_place self.new.memory) self.new.machine) }
-        ensures ready { IfNone result (IsReady (code_of code.now) limits.now.task_units (Y.code yard.new) (Y.units yard.new) (Y.state yard.new)) }
+        ensures due { IfNone result (self.new.machine.due ≡ Due.Run) }
+        ensures fits { IfNone result (Fits (code_of code.now) self.new.machine.state) }
+        ensures stacked { IfNone result (IsStacked (code_of code.now) (main_place self.new.memory) self.new.machine.state) }
+        ensures ready { IfNone result (IsReady (code_of code.now) limits.now self.new.called (Y.code yard.new) (Y.limits yard.new) (Y.state yard.new)) }
         ensures ends { IfSome result (EndsRun limits.now (code_of code.now) (side self.old) pending.old (change O.written O.faults out.old out.new)) }
+        ensures left { IfSome result (λ _. IsLeft (code_of code.now) limits.now (Y.code yard.new) (Y.limits yard.new) (Y.state yard.new)) }
     {
         let Ok(event) = self
             .machine
@@ -173,9 +184,11 @@ impl Main {
 
     // Writes what main writes.
     fn print<O: Sink>(&mut self, bytes: &[u8], pending: &mut Pending, out: &mut O) -> Option<Ran>
-        requires owed { IsOwed self.old.machine }
+        requires due { self.old.machine.due ≡ Due.Value }
+        requires owed { IsOwed self.old.machine.state }
         requires piece { length bytes.now ≤ 65536 }
         ensures answers { IfNone result (side self.new ≡ with_answer (length bytes.now) (side self.old)) }
+        ensures due { IfNone result (self.new.machine.due ≡ Due.Run) }
         ensures passes { IfNone result (Passes (change O.written O.faults out.old out.new) (pending.old ++ bytes.now) pending.new) }
         ensures never_falls { O.faults out.old ≤ O.faults out.new }
         ensures fails { IfSome result (Fails pending.old (change O.written O.faults out.old out.new)) }
@@ -189,6 +202,16 @@ impl Main {
         }
     }
 
+    // Answers an event with 0: a task's call gives it, and at a mark that asks nothing the machine doesn't keep it.
+    fn go_on(&mut self)
+        requires { TakesAnswer self.old.machine.due self.old.machine.state }
+        ensures value { self.old.machine.due ≡ Due.Value → side self.new ≡ with_answer 0 (side self.old) }
+        ensures signal { self.old.machine.due ≡ Due.Signal → side self.new ≡ side self.old }
+        ensures due { self.new.machine.due ≡ Due.Run }
+    {
+        self.machine.answer(0);
+    }
+
     // A directive of main.
     fn mark<O: Sink>(
         &mut self,
@@ -197,7 +220,9 @@ impl Main {
         pending: &mut Pending,
         out: &mut O,
     ) -> Option<Ran>
-        requires owed { IsOwedAt kind self.old.machine }
+        requires due { self.old.machine.due ≡ due_at kind }
+        requires owed { IsOwedAt kind self.old.machine.state }
+        ensures due { IfNone result (self.new.machine.due ≡ Due.Run) }
         ensures marked { IfNone result (Marked kind (side self.old) (side self.new)) }
         ensures nothing { IfNone result ((pending.new ≡ pending.old) × (out.new ≡ out.old)) }
         ensures ends { IfSome result (MarkEnds kind line (side self.old) pending.old (change O.written O.faults out.old out.new)) }
@@ -212,6 +237,7 @@ impl Main {
             MarkKind::Finish => self.finish(line, pending, out),
             MarkKind::Barrier => {
                 self.memory.settle();
+                self.go_on();
                 None
             }
         }
@@ -219,6 +245,8 @@ impl Main {
 
     // From here on calls make tasks. Some where they do already.
     fn start<O: Sink>(&mut self, line: Line, pending: &mut Pending, out: &mut O) -> Option<Ran>
+        requires due { self.old.machine.due ≡ Due.Signal }
+        ensures due { IfNone result (self.new.machine.due ≡ Due.Run) }
         ensures marked { IfNone result (Marked MarkKind.Start (side self.old) (side self.new)) }
         ensures nothing { IfNone result ((pending.new ≡ pending.old) × (out.new ≡ out.old)) }
         ensures ends { IfSome result (MarkEnds MarkKind.Start line (side self.old) pending.old (change O.written O.faults out.old out.new)) }
@@ -227,11 +255,14 @@ impl Main {
             return Some(refused(Rule::StartTwice, line, pending, out));
         }
         self.is_started = true;
+        self.go_on();
         None
     }
 
     // From here on calls make no tasks, and nothing is pending. Some where they make none already.
     fn finish<O: Sink>(&mut self, line: Line, pending: &mut Pending, out: &mut O) -> Option<Ran>
+        requires due { self.old.machine.due ≡ Due.Signal }
+        ensures due { IfNone result (self.new.machine.due ≡ Due.Run) }
         ensures marked { IfNone result (Marked MarkKind.Finish (side self.old) (side self.new)) }
         ensures nothing { IfNone result ((pending.new ≡ pending.old) × (out.new ≡ out.old)) }
         ensures ends { IfSome result (MarkEnds MarkKind.Finish line (side self.old) pending.old (change O.written O.faults out.old out.new)) }
@@ -241,6 +272,7 @@ impl Main {
         }
         self.is_started = false;
         self.memory.settle();
+        self.go_on();
         None
     }
 
@@ -259,14 +291,17 @@ impl Main {
         requires plain { HasPlainTasks (code_of code.now) }
         requires in_range { IsInRange limits.now }
         requires stands { Stands limits.now (side self.old) }
-        requires owed { IsOwed self.old.machine }
-        requires stacked { IsStacked (code_of code.now) (main_place self.old.memory) self.old.machine }
+        requires due { self.old.machine.due ≡ Due.Value }
+        requires owed { IsOwed self.old.machine.state }
+        requires stacked { IsStacked (code_of code.now) (main_place self.old.memory) self.old.machine.state }
         requires whole { IsWhole (code_of code.now) call.now }
-        requires ready { IsReady (code_of code.now) limits.now.task_units (Y.code yard.old) (Y.units yard.old) (Y.state yard.old) }
+        requires ready { IsReady (code_of code.now) limits.now self.old.called (Y.code yard.old) (Y.limits yard.old) (Y.state yard.old) }
+        ensures due { IfNone result (self.new.machine.due ≡ Due.Run) }
         ensures returns { IfNone result (AnswersCall limits.now (code_of code.now) call.now (side self.old) (side self.new)) }
-        ensures ready { IfNone result (IsReady (code_of code.now) limits.now.task_units (Y.code yard.new) (Y.units yard.new) (Y.state yard.new)) }
+        ensures ready { IfNone result (IsReady (code_of code.now) limits.now self.new.called (Y.code yard.new) (Y.limits yard.new) (Y.state yard.new)) }
         ensures nothing { IfNone result ((pending.new ≡ pending.old) × (out.new ≡ out.old)) }
         ensures ends { IfSome result (CallEnds limits.now (code_of code.now) call.now (side self.old) pending.old (change O.written O.faults out.old out.new)) }
+        ensures left { IfSome result (λ _. IsLeft (code_of code.now) limits.now (Y.code yard.new) (Y.limits yard.new) (Y.state yard.new)) }
     {
         let base = pointer_of(call);
         if let Err(rule) = self.memory.judge(limits, base) {
@@ -274,7 +309,7 @@ impl Main {
         }
         match self.make_task(alloc, code, limits, call, base, yard) {
             Ok(()) => {
-                self.machine.answer(0);
+                self.go_on();
                 None
             }
             Err(answer) => Some(unreturned(answer, pending, out)),
@@ -295,14 +330,16 @@ impl Main {
         requires plain { HasPlainTasks (code_of code.now) }
         requires in_range { IsInRange limits.now }
         requires stands { Stands limits.now (side self.old) }
-        requires place { base_of self.old.machine ≡ main_place self.old.memory }
+        requires place { base_of self.old.machine.state ≡ main_place self.old.memory }
         requires whole { IsWhole (code_of code.now) call.now }
         requires to { PointsTo call.now base }
         requires none { broken_by_call limits.now self.old.memory (plain_argument base ∷ []) ≡ None }
-        requires ready { IsReady (code_of code.now) limits.now.task_units (Y.code yard.old) (Y.units yard.old) (Y.state yard.old) }
+        requires ready { IsReady (code_of code.now) limits.now self.old.called (Y.code yard.old) (Y.limits yard.old) (Y.state yard.old) }
+        ensures machine { self.new.machine ≡ self.old.machine }
         ensures returns { OnOk result (TaskReturns limits.now (code_of code.now) call.now (side self.old) (side self.new)) }
-        ensures ready { OnOk result (IsReady (code_of code.now) limits.now.task_units (Y.code yard.new) (Y.units yard.new) (Y.state yard.new)) }
+        ensures ready { OnOk result (IsReady (code_of code.now) limits.now self.new.called (Y.code yard.new) (Y.limits yard.new) (Y.state yard.new)) }
         ensures stops { IfErr result (λ e. AnswersStop limits.now (code_of code.now) call.now (side self.old) e) }
+        ensures left { OnErr result (IsLeft (code_of code.now) limits.now (Y.code yard.new) (Y.limits yard.new) (Y.state yard.new)) }
     {
         let Some(next) = self.called.checked_add(1) else {
             return Err(YardAnswer::NoMemory);

@@ -3,7 +3,7 @@
 use css_base::Ending;
 
 /// How main's run ends.
-#[derive(Drop, Debug)]
+#[derive(Drop)]
 pub enum Ran {
     /// With a result, or at a fault or a rule.
     Ended(Ending),

@@ -1,15 +1,15 @@
 //! A task's run on a yard that has no other.
-ghost use Rattle.std.specs.Prelude.{◌≡◌, ◌∷◌, [], ℕ, List, Some, slice_get, IfOk, OnOk, IfErr};
+ghost use Rattle.std.specs.Prelude.{◌≡◌, ◌⊎◌, ◌∷◌, [], ℕ, true, List, Some, slice_get, IfOk, OnOk, OnErr, IfErr};
 ghost use Rattle.css_record.specs.declared.version.VersionName.TheVariants.{Given};
 ghost use Rattle.css_record.specs.Windows.{window};
 ghost use Rattle.css_semantics.specs.Tasks.{plain};
 ghost use Rattle.css_task.specs.Alone.{Outs, IsAlone};
-ghost use Rattle.css_vm.specs.Code.{code_of};
+ghost use Rattle.css_vm.specs.Code.{Routine, Shape, code_of};
 ghost use Rattle.css_vm.specs.Events.{IsWhole};
-ghost use Rattle.css_yard.specs.Yards.{Open, MaySubmit, CanFetch};
+ghost use Rattle.css_yard.specs.Yards.{Open, Closed, MaySubmit, CanFetch, TakesSettle, with_record};
 ghost use Rattle.css_yard.specs.declared.answer.YardAnswer.{YardAnswer};
 ghost use Rattle.css_main_side.specs.Calls.{PointsTo, IsRecordOf};
-ghost use Rattle.css_main_side.specs.Alone.{MayRun, ComesAlone, StopsAlone, IsQuiet};
+ghost use Rattle.css_main_side.specs.Alone.{MayRun, ComesAlone, StopsAlone, IsQuiet, HasRefused};
 
 use css_base::{Buffer, NoMemory};
 use css_record::{TaskRecord, VersionName, Window};
@@ -27,7 +27,7 @@ pub(crate) fn record_of(
     part: Window,
 ) -> Result<TaskRecord, NoMemory>
     requires whole { IsWhole (code_of code.now) call.now }
-    ensures { (base : ℕ) → window part ≡ plain base 4 → IfOk result (λ r. IsRecordOf r call.now number place base) }
+    ensures { (base : ℕ) → window part ≡ plain base 4 → IfOk result (λ r. IsRecordOf r (code_of code.now) call.now number place base) }
 {
     let high = is_high(code, call.function);
     Ok(TaskRecord {
@@ -51,7 +51,9 @@ pub(crate) fn pointer_of(call: &Submitted) -> u32
 }
 
 // Whether calls of a task go before others.
-fn is_high(code: &Code, function: u32) -> bool {
+fn is_high(code: &Code, function: u32) -> bool
+    ensures { (f : Routine) (s : Shape) → slice_get (code_of code.now).functions function ≡ Some f → f.task ≡ Some s → result ≡ s.high }
+{
     match code.functions.get(function as usize) {
         Some(f) => match &f.task {
             Some(shape) => shape.high,
@@ -68,6 +70,19 @@ fn one(alloc: Global, bytes: Buffer) -> Result<Vec<Buffer>, NoMemory>
     Ok(vec![in alloc; bytes]?)
 }
 
+// Ends a generation whose values nobody asks for.
+fn give_up<Y: Yard>(alloc: Global, yard: &mut Y)
+    requires takes { TakesSettle (Y.state yard.old).phase }
+    ensures settled { ((Y.state yard.new).phase ≡ Closed) ⊎ ((Y.state yard.new).submits ≡ []) }
+    ensures parts { (Y.state yard.new).parts ≡ (Y.state yard.old).parts }
+    ensures kept { (Y.code yard.new ≡ Y.code yard.old) × (Y.limits yard.new ≡ Y.limits yard.old) }
+{
+    match yard.settle(alloc, &[]) {
+        Ok(_) => {}
+        Err(_) => {}
+    }
+}
+
 // Runs a task on a yard that has no other, over the bytes that it is given, and gives what it makes.
 pub(crate) fn run_alone<Y: Yard>(
     alloc: Global,
@@ -76,11 +91,13 @@ pub(crate) fn run_alone<Y: Yard>(
     bytes: Buffer,
 ) -> Result<Buffer, YardAnswer>
     requires quiet { IsQuiet (Y.state yard.old) }
-    requires may { MayRun (Y.code yard.old) rec bytes }
-    ensures value { IfOk result (λ value. ComesAlone (Y.code yard.old) rec bytes (Y.units yard.old) value) }
+    requires may { MayRun (Y.code yard.old) (Y.limits yard.old) rec bytes }
+    ensures value { IfOk result (λ value. ComesAlone (Y.code yard.old) rec bytes (Y.limits yard.old).task_units value) }
     ensures quiet { OnOk result (IsQuiet (Y.state yard.new)) }
-    ensures stops { IfErr result (λ e. StopsAlone (Y.code yard.old) rec bytes (Y.units yard.old) e) }
-    ensures kept { (Y.code yard.new ≡ Y.code yard.old) × (Y.units yard.new ≡ Y.units yard.old) }
+    ensures stops { IfErr result (λ e. StopsAlone (Y.code yard.old) rec bytes (Y.limits yard.old).task_units e) }
+    ensures parts { OnOk result ((Y.state yard.new).parts ≡ with_record (Y.state yard.old).parts true rec) }
+    ensures left { OnErr result (HasRefused (Y.state yard.old) rec (Y.state yard.new)) }
+    ensures kept { (Y.code yard.new ≡ Y.code yard.old) × (Y.limits yard.new ≡ Y.limits yard.old) }
 {
     let made = VersionName::Made {
         task: rec.number,
@@ -88,8 +105,7 @@ pub(crate) fn run_alone<Y: Yard>(
     };
     let given = one(alloc, bytes)?;
     if let Err(answer) = yard.submit(alloc, rec, given) {
-        // What was submitted is waited for.
-        let _ = yard.settle(alloc, &[]);
+        give_up(alloc, yard);
         return Err(answer);
     }
     match yard.settle(alloc, &[made]) {

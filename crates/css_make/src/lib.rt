@@ -8,6 +8,3 @@ mod text;
 pub use numbers::shape;
 pub use sizes::Shape;
 pub use text::make_text;
-
-#[cfg(test)]
-mod tests;

@@ -1,7 +1,7 @@
 //! The sizes of a generated program.
 
 /// The sizes of a generated program.
-#[derive(Clone, Copy, PartialEq, Eq, Debug)]
+#[derive(Clone, Copy, PartialEq, Eq)]
 pub struct Shape {
     /// Blocks in a row and in a column of each matrix.
     pub nb: u32,

@@ -4,14 +4,15 @@ use Rattle.std.proofs.Math.Nat.{suc-mul}
 use Rattle.std.proofs.lemmas.List.{drop-drop, length-drop}
 use Rattle.std.proofs.lemmas.Bool.{and_parts, leb-true}
 use Rattle.css_semantics.specs.Memory.{Memory, stack_place, all_from, is_live_byte, bytes_at, overlaid, stored}
-use Rattle.css_semantics.specs.Rows.{with_rows, with_window}
+use Rattle.css_semantics.specs.WithWindow.{with_rows, with_window}
 use Rattle.css_semantics.specs.Rules.{all_of_rows, all_of_window}
 use Rattle.css_semantics.specs.Verdict.{bytes_of_rows, bytes_of_window}
 use Rattle.css_semantics.proofs.StackPlaces.{length-overlaid}
 use Rattle.css_semantics.specs.Tasks.{Window}
 use Rattle.css_record.specs.Windows.{IsWindow}
 use Rattle.css_mem.specs.Slices.{RowsFit, rows_of, over_rows}
-use Rattle.css_mem.proofs.Memories.{memory, kept, live_in_stack, bytes_in_stack, drop-overlaid, overlaid-shift}
+use Rattle.css_vm.proofs.Bytes.{drop-overlaid, overlaid-shift}
+use Rattle.css_mem.proofs.Memories.{memory, kept, live_in_stack, bytes_in_stack}
 
 -- the first of some rows
 pub first_row : (test : ℕ → Bool) (rows base width stride : ℕ) → 1 ≤ rows → all_of_rows test rows base width stride ≡ true → all_from test base width ≡ true

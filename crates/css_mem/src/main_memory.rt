@@ -3,23 +3,22 @@ ghost use Rattle.std.specs.Prelude.{◌≡◌, ◌+◌, ◌≤◌, true, length,
 ghost use Rattle.css_semantics.specs.declared.TheConstants.{STACK_LIMIT};
 ghost use Rattle.css_semantics.specs.Memory.{first_global, is_live, is_live_byte, stack_place};
 ghost use Rattle.css_semantics.specs.Flat.{erased_stack, no_frames};
-ghost use Rattle.css_semantics.specs.Rows.{with_window};
+ghost use Rattle.css_semantics.specs.WithWindow.{with_window};
 ghost use Rattle.css_semantics.specs.Rules.{main_stack, all_of_window};
 ghost use Rattle.css_semantics.specs.Tasks as tasks;
 ghost use Rattle.css_semantics.specs.Verdict.{bytes_of_window};
 ghost use Rattle.css_record.specs.Windows.{window, IsWindow};
 
-use crate::big_endian::{byte_count, number_of, write_number};
 use crate::rows::{copied_rows, write_rows};
 use css_base::{Buffer, FaultKind, NoMemory, Rule, Stop};
 use css_record::Window;
 use css_semantics::{MAIN_OPEN_CALLS, MAIN_STACK_LIMIT, OPEN_CALLS, STACK_LIMIT};
-use css_vm::{Space, Width};
+use css_vm::{Space, Width, byte_count, number_of, write_number};
 use std::alloc::Global;
 use std::marker::Model;
 
 /// Main's memory. Contracts see its live bytes, its end, its open calls and its stack's limit.
-#[derive(Drop, Debug)]
+#[derive(Drop)]
 pub struct MainMemory {
     // All bytes that the stack may have, and the address of the first of them. They end where the memory does.
     origin: u32,

@@ -3,8 +3,8 @@ ghost use Rattle.std.specs.Prelude.{◌≡◌, ◌<◌, ◌*◌, ◌^◌, length
 ghost use Rattle.css_record.specs.Windows.{window, IsWindow};
 ghost use Rattle.css_mem.specs.Slices.{RowsFit, rows_of, over_rows};
 
-use crate::big_endian::overwrite;
 use css_record::Window;
+use css_vm::overwrite;
 use std::alloc::{AllocError, Global};
 
 /// A copy of the bytes of a window's rows, in order, where the first row begins at an index.

@@ -7,8 +7,6 @@ mod evaluation;
 pub mod laws;
 mod operators;
 mod shifts;
-#[cfg(test)]
-mod tests;
 mod types;
 mod usual_types;
 

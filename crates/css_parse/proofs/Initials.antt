@@ -3,7 +3,7 @@ use Rattle.std.proofs.Common.{◌≡◌, ◌⊎◌, ℕ, zero, suc, ◌<◌, ◌
 use Rattle.std.specs.List.{slice_get}
 use Rattle.css_base.specs.declared.token.Token.{Token}
 use Rattle.css_base.specs.Tokens as tokens
-use Rattle.css_base.specs.Tokens.{Punctuator, Lexeme, At, lexemes}
+use Rattle.css_base.specs.Tokens.{Kind, Punctuator, Lexeme, At, lexemes}
 use Rattle.css_tree.specs.declared.scope.Scope.{Scope}
 use Rattle.css_tree.specs.Syntax as tree
 use Rattle.css_tree.specs.Syntax.{Expression, Initialiser, Value, String}
@@ -30,6 +30,14 @@ valued_cases (At (tokens.Text other) k p q ∷ ts) (tree.Text line bytes) = inr 
 valued_cases [] e = inl refl
 valued_cases (At (tokens.Text other) k p q ∷ ts) e = inl refl
 valued_cases (At kind k p q ∷ ts) e = inl refl
+
+-- a string behind a token that is one, and what is no string
+pub text_valued : {k : Kind} {b : List ℕ} {e : Expression} {other : ℕ} {bytes : List ℕ} (line place end : ℕ) (ts : List Lexeme) → k ≡ tokens.Text b → e ≡ tree.Text other bytes
+    → valued (At k line place end ∷ ts) e ≡ String other bytes
+text_valued {b = b} {e} line place end ts kind text = ap (λ z. valued (At z line place end ∷ ts) e) kind ∙ ap (valued (At (tokens.Text b) line place end ∷ ts)) text
+
+pub other_valued : (ts : List Lexeme) (e : Expression) → ((line : ℕ) (bytes : List ℕ) → e ≡ tree.Text line bytes → ⊥) → valued ts e ≡ Value e
+other_valued ts e none = elim (valued_cases ts e) [ inl is ↦ is | inr h ↦ absurd (none h.0 h.1 h.2) ]
 
 valued_high : (ts : List Lexeme) (e : Expression) (most : ℕ) → height_of_initialiser (valued ts e) ≤ most → height e ≤ max most 1
 valued_high ts e most low = elim (valued_cases ts e)

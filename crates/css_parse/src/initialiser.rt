@@ -70,9 +70,9 @@ fn valued(first: &TokenKind, value: Expression) -> Initialiser
     ensures { (line place end : ℕ) (ts : List Lexeme) → initialiser result ≡ valued (At (kind_of first.now) line place end ∷ ts) (expression value) }
 {
     match first {
-        TokenKind::Text(_) => match value {
-            Expression::Text { line, bytes } => Initialiser::Text { line, bytes },
-            value => Initialiser::Value(value),
+        TokenKind::Text(_) => match value.into_text() {
+            Ok((line, bytes)) => Initialiser::Text { line, bytes },
+            Err(value) => Initialiser::Value(value),
         },
         _ => Initialiser::Value(value),
     }

@@ -25,11 +25,42 @@ use css_tree::{Block, Entry, Expression, ForStart, Mark, Scope, Statement};
 use std::alloc::Global;
 
 /// The head of a `for` behind its keyword.
-#[derive(Drop)]
 struct ForHead {
     start: ForStart,
     condition: Option<Expression>,
     step: Option<Expression>,
+}
+
+// By hand, so that a place that lets a head go is one call in its proof.
+impl Drop for ForHead {
+    fn drop(self) {
+        let ForHead {
+            start: _,
+            condition: _,
+            step: _,
+        } = self;
+    }
+}
+
+impl ForHead {
+    /// The loop of this head and a body.
+    fn into_loop(self, line: Line, body: Box<Statement>) -> Statement
+        ensures { statement result ≡ spec.For line (for_start self.start) (option_map expression self.condition)
+            (option_map expression self.step) (statement body.value) }
+    {
+        let ForHead {
+            start,
+            condition,
+            step,
+        } = self;
+        Statement::For {
+            line,
+            start,
+            condition,
+            step,
+            body,
+        }
+    }
 }
 
 /// An expression in a block that may be left out, up to this punctuator.
@@ -74,6 +105,24 @@ pub(crate) fn statement(
         return Ok((Statement::Expression { line, value }, rest));
     };
     formed(alloc, form, line, behind, levels - 1)
+}
+
+/// A statement on the heap, and the tokens behind it.
+#[cycle(statements)]
+fn boxed_statement(
+    alloc: Global,
+    tokens: &[Token],
+    levels: u32,
+) -> Result<(Box<Statement>, &[Token]), Unspelled>
+    requires { levels ≤ 500 }
+    ensures ok { IfOk result (λ x. ReadsStatement levels (lexemes tokens.now) (statement x.0.value) (lexemes x.1.now)) }
+    ensures not_spelled { IsErrOf result Unspelled.NotSpelled → (s : spec.Statement) (rest : List Lexeme)
+        → ReadsStatement levels (lexemes tokens.now) s rest → ⊥ }
+    ensures shorter { IfOk result (λ x. length x.1.now < length tokens.now) }
+{
+    let (inner, rest) = statement(alloc, tokens, levels)?;
+    let body = boxed(alloc, inner)?;
+    Ok((body, rest))
 }
 
 /// A statement of a form, behind its first token, and the tokens behind it.
@@ -136,8 +185,7 @@ fn if_statement(
     ensures shorter { IfOk result (λ x. length x.1.now < length tokens.now) }
 {
     let (condition, behind) = condition(alloc, tokens, levels)?;
-    let (body, rest) = statement(alloc, behind, levels)?;
-    let first = boxed(alloc, body)?;
+    let (first, rest) = boxed_statement(alloc, behind, levels)?;
     let Some(next) = after_word(rest, b"else") else {
         return Ok((
             Statement::If {
@@ -149,14 +197,13 @@ fn if_statement(
             rest,
         ));
     };
-    let (other, rest) = statement(alloc, next, levels)?;
-    let second = Some(boxed(alloc, other)?);
+    let (other, rest) = boxed_statement(alloc, next, levels)?;
     Ok((
         Statement::If {
             line,
             condition,
             first,
-            second,
+            second: Some(other),
         },
         rest,
     ))
@@ -176,8 +223,7 @@ fn while_statement(
     ensures shorter { IfOk result (λ x. length x.1.now < length tokens.now) }
 {
     let (condition, behind) = condition(alloc, tokens, levels)?;
-    let (inner, rest) = statement(alloc, behind, levels)?;
-    let body = boxed(alloc, inner)?;
+    let (body, rest) = boxed_statement(alloc, behind, levels)?;
     Ok((
         Statement::While {
             line,
@@ -201,8 +247,7 @@ fn do_statement(
         → ReadsForm Form.Do levels line (lexemes tokens.now) s rest → ⊥ }
     ensures shorter { IfOk result (λ x. length x.1.now < length tokens.now) }
 {
-    let (inner, behind) = statement(alloc, tokens, levels)?;
-    let body = boxed(alloc, inner)?;
+    let (body, behind) = boxed_statement(alloc, tokens, levels)?;
     let Some(next) = after_word(behind, b"while") else {
         return Err(Unspelled::NotSpelled);
     };
@@ -234,23 +279,8 @@ fn for_statement(
     ensures shorter { IfOk result (λ x. length x.1.now < length tokens.now) }
 {
     let (head, behind) = for_head(alloc, tokens, levels)?;
-    let (inner, rest) = statement(alloc, behind, levels)?;
-    let body = boxed(alloc, inner)?;
-    let ForHead {
-        start,
-        condition,
-        step,
-    } = head;
-    Ok((
-        Statement::For {
-            line,
-            start,
-            condition,
-            step,
-            body,
-        },
-        rest,
-    ))
+    let (body, rest) = boxed_statement(alloc, behind, levels)?;
+    Ok((head.into_loop(line, body), rest))
 }
 
 fn break_statement(line: Line, tokens: &[Token]) -> Result<(Statement, &[Token]), Unspelled>

@@ -55,7 +55,10 @@ fn node_of(alloc: Global, most: u32, last: Frame, inner: Node) -> Result<Node, N
             operator,
         } => assigned(alloc, most, line, operator, place, inner),
         Frame::Sequence { line, left } => sequence(alloc, most, line, left, inner),
-        _ => Ok(inner),
+        other => {
+            drop(other);
+            Ok(inner)
+        }
     }
 }
 

@@ -33,11 +33,9 @@ pub(crate) fn with_argument(
     };
     let Arguments { all, levels } = before;
     let mut all = all;
-    all.push(next.tree)?;
-    Ok(Some(Arguments {
-        all,
-        levels: levels.max(next.levels),
-    }))
+    let levels = levels.max(next.levels);
+    all.push(next.into_tree())?;
+    Ok(Some(Arguments { all, levels }))
 }
 
 /// A call of the name that was read, with these arguments.
@@ -55,10 +53,7 @@ pub(crate) fn called(most: u32, line: Line, callee: Node, given: Option<Argument
         return None;
     }
     let levels = given.levels + 1;
-    let Known { tree, .. } = callee;
-    let Expression::Name { name, .. } = tree else {
-        return None;
-    };
+    let name = callee.into_tree().into_name()?;
     let tree = Expression::Call {
         line,
         name,

@@ -35,7 +35,11 @@ pub(crate) fn divided(frames: &mut Stack, first: Operand) -> Result<Option<State
             })?;
             Ok(Some(State::Wants))
         }
-        _ => Ok(None),
+        other => {
+            drop(other);
+            drop(first);
+            Ok(None)
+        }
     }
 }
 
@@ -60,7 +64,11 @@ pub(crate) fn grouped(
             let arguments = with_argument(arguments, last.node)?;
             Ok(Some(call(manner.most, line, callee, arguments)))
         }
-        _ => Ok(None),
+        other => {
+            drop(other);
+            drop(last);
+            Ok(None)
+        }
     }
 }
 
@@ -86,7 +94,11 @@ pub(crate) fn indexed(
     };
     match opening {
         Frame::Element { line, array } => indexed_at(alloc, manner.most, line, array, index.node),
-        _ => Ok(None),
+        other => {
+            drop(other);
+            drop(index);
+            Ok(None)
+        }
     }
 }
 

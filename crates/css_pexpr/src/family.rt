@@ -5,9 +5,17 @@ ghost use Rattle.css_pexpr.specs.Frames.{under, under_two, under_three};
 ghost use Rattle.css_pexpr.specs.Shapes.{node, two, three};
 
 use crate::children::{Pair, Single, Triple};
-use crate::node::Node;
+use crate::node::{Known, Node};
 use css_base::NoMemory;
+use css_tree::Expression;
 use std::alloc::Global;
+
+/// The expression on the heap.
+fn boxed(alloc: Global, known: Known) -> Result<Box<Expression>, NoMemory>
+    ensures { IfOk result (λ b. b.value ≡ known.tree) }
+{
+    Ok(Box::new(alloc, known.into_tree())?)
+}
 
 /// One child.
 pub(crate) fn single(alloc: Global, most: u32, child: Node) -> Result<Option<Single>, NoMemory>
@@ -20,7 +28,7 @@ pub(crate) fn single(alloc: Global, most: u32, child: Node) -> Result<Option<Sin
         return Ok(None);
     }
     let levels = child.levels + 1;
-    let child = Box::new(alloc, child.tree)?;
+    let child = boxed(alloc, child)?;
     Ok(Some(Single { child, levels }))
 }
 
@@ -43,8 +51,8 @@ pub(crate) fn pair(
     if below >= most {
         return Ok(None);
     }
-    let first = Box::new(alloc, first.tree)?;
-    let second = Box::new(alloc, second.tree)?;
+    let first = boxed(alloc, first)?;
+    let second = boxed(alloc, second)?;
     Ok(Some(Pair {
         first,
         second,
@@ -75,9 +83,9 @@ pub(crate) fn triple(
     if below >= most {
         return Ok(None);
     }
-    let first = Box::new(alloc, first.tree)?;
-    let second = Box::new(alloc, second.tree)?;
-    let third = Box::new(alloc, third.tree)?;
+    let first = boxed(alloc, first)?;
+    let second = boxed(alloc, second)?;
+    let third = boxed(alloc, third)?;
     Ok(Some(Triple {
         first,
         second,

@@ -6,7 +6,7 @@ ghost use Rattle.css_pexpr.specs.Signs.{joint_text, own_level, left_level, reduc
 use css_tree::{AssignOperator, BinaryOperator};
 
 /// A punctuator between two operands, of which the left one was read.
-#[derive(Clone, Copy, PartialEq, Eq, Debug)]
+#[derive(Clone, Copy)]
 pub(crate) enum Joint {
     /// `,`
     Comma,
@@ -17,7 +17,7 @@ pub(crate) enum Joint {
 }
 
 /// A punctuator behind an operand.
-#[derive(Clone, Copy, PartialEq, Eq, Debug)]
+#[derive(Clone, Copy)]
 pub(crate) enum Follow {
     Joint(Joint),
     /// `:`

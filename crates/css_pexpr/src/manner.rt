@@ -3,7 +3,7 @@
 use css_tree::Scope;
 
 /// Where an expression stands, its level in the grammar, and the most levels of the trees that are kept.
-#[derive(Clone, Copy, PartialEq, Eq, Debug)]
+#[derive(Clone, Copy)]
 pub(crate) struct Manner {
     pub scope: Scope,
     pub level: u8,

@@ -7,11 +7,29 @@ ghost use Rattle.css_pexpr.specs.Arguments.{in_order};
 use css_tree::Expression;
 
 /// An expression with its levels.
-#[derive(Drop)]
 pub(crate) struct Known {
     pub tree: Expression,
     pub levels: u32,
     ghost levels_are: { levels ≡ height (expression tree) },
+}
+
+// By hand, so that a place that lets an expression go is one call in its proof.
+impl Drop for Known {
+    fn drop(self) {
+        let Known { tree: _, levels: _ } = self;
+    }
+}
+
+impl Known {
+    ghost use Rattle.std.specs.Prelude.{◌≡◌};
+
+    /// The expression.
+    pub(crate) fn into_tree(self) -> Expression
+        ensures { result ≡ self.tree }
+    {
+        let Known { tree, levels: _ } = self;
+        tree
+    }
 }
 
 /// An expression, or None where it has more levels than are kept.

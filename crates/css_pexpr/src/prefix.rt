@@ -7,7 +7,7 @@ ghost use Rattle.css_pexpr.specs.Signs.{prefix_text, lead_text, lead_spelled};
 use css_tree::UnaryOperator;
 
 /// An operator before its operand (C99 6.5.3).
-#[derive(Clone, Copy, PartialEq, Eq, Debug)]
+#[derive(Clone, Copy)]
 pub(crate) enum Prefix {
     /// `++`
     Increment,
@@ -19,7 +19,7 @@ pub(crate) enum Prefix {
 }
 
 /// A punctuator where an operand is wanted.
-#[derive(Clone, Copy, PartialEq, Eq, Debug)]
+#[derive(Clone, Copy)]
 pub(crate) enum Lead {
     Prefix(Prefix),
     /// `(`

@@ -10,7 +10,6 @@ ghost use Rattle.css_pexpr.specs.States.{state_of};
 use crate::apply::reduce;
 use crate::frame::Operand;
 use crate::manner::Manner;
-use crate::node::Known;
 use crate::stack::Stack;
 use crate::state::State;
 use crate::step::step;
@@ -105,10 +104,7 @@ fn tree_of(
     }
     let whole = reduce(alloc, manner.most, 0, frames, operand)?;
     match whole.node {
-        Some(known) => {
-            let Known { tree, .. } = known;
-            Ok(Some(tree))
-        }
+        Some(known) => Ok(Some(known.into_tree())),
         None => Ok(None),
     }
 }

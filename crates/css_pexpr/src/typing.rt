@@ -134,7 +134,7 @@ fn ended(
 {
     match frames.last_sizeof() {
         Some(first) => {
-            let _ = frames.pop();
+            drop(frames.pop());
             Ok(sizeof_type(manner.most, first, so_far))
         }
         None => {

@@ -99,7 +99,10 @@ fn empty_call(manner: Manner, frames: &mut Stack) -> Option<State>
             callee,
             arguments,
         } => no_argument(manner.most, line, callee, arguments),
-        _ => None,
+        other => {
+            drop(other);
+            None
+        }
     }
 }
 
@@ -162,7 +165,10 @@ fn begun(
     };
     match last {
         Frame::Group { line } => typed(alloc, manner, frames, line, specifier),
-        _ => Ok(None),
+        other => {
+            drop(other);
+            Ok(None)
+        }
     }
 }
 

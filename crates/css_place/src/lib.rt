@@ -10,6 +10,3 @@ mod stretch;
 pub use place::Place;
 pub use placer::{Full, Placer};
 pub use stretch::Stretch;
-
-#[cfg(test)]
-mod tests;

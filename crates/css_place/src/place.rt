@@ -9,7 +9,7 @@ use std::marker::Model;
 ///
 /// It starts at a multiple of 128, and its length is a positive multiple of 128. It can't be copied, so it is
 /// released once at most; one that is dropped stays out.
-#[derive(Drop, Debug)]
+#[derive(Drop)]
 pub struct Place {
     stretch: Stretch,
 }

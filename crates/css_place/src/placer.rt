@@ -22,7 +22,7 @@ pub struct Full;
 
 /// The placer of a local store. Contracts see its size and the places out, in order of start; what isn't in a place
 /// is free. It takes no memory.
-#[derive(Drop, Debug)]
+#[derive(Drop)]
 pub struct Placer {
     size: u32,
     out: ArrayVec<Stretch, MOST_PLACES>,

@@ -2,7 +2,7 @@
 ghost use Rattle.std.specs.Prelude.{◌≡◌, Contains, slice_get};
 
 /// Addresses of a local store in a row. Contracts see a place as one.
-#[derive(Clone, Copy, PartialEq, Eq, Debug, Default)]
+#[derive(Clone, Copy, PartialEq, Eq, Default)]
 pub struct Stretch {
     /// The first address.
     pub start: u32,

@@ -18,7 +18,8 @@ abbrev pub uses_by : List ArgShape → List Window → List Use
 uses_by (shapes.Scalar ∷ parts) windows = uses_by parts windows
 uses_by (shapes.Window direction element dims strided ∷ parts) (w ∷ windows) =
     record { window = w; direction = direction } ∷ uses_by parts windows
-uses_by _ _ = []
+uses_by [] windows = []
+uses_by (shapes.Window direction element dims strided ∷ parts) [] = []
 
 abbrev pub uses : Shape → TaskRecord → List Use
 uses s r = uses_by s.arguments (map window r.windows.items)
@@ -27,7 +28,9 @@ uses s r = uses_by s.arguments (map window r.windows.items)
 abbrev pub arguments_by : List ArgShape → (scalars : List ℕ) → List Window → List ℕ
 arguments_by (shapes.Scalar ∷ parts) (v ∷ scalars) windows = v ∷ arguments_by parts scalars windows
 arguments_by (shapes.Window direction element dims strided ∷ parts) scalars (w ∷ windows) = w.base ∷ arguments_by parts scalars windows
-arguments_by _ _ _ = []
+arguments_by [] scalars windows = []
+arguments_by (shapes.Scalar ∷ parts) [] windows = []
+arguments_by (shapes.Window direction element dims strided ∷ parts) scalars [] = []
 
 abbrev pub arguments : Shape → TaskRecord → List ℕ
 arguments s r = arguments_by s.arguments r.scalars.items (map window r.windows.items)
@@ -59,6 +62,7 @@ pub record FitsCode (code : Code) (r : TaskRecord) : Type 0 where
   pub shape : Shape
   pub function : slice_get code.functions r.function ≡ Some routine
   pub task : routine.task ≡ Some shape
+  pub high : r.high ≡ shape.high
   pub given : AreGiven shape.arguments routine.parameters r.scalars.items (map window r.windows.items)
   pub agree : AllAgree (uses shape r)
   pub place : 16384 ≤ r.stack_place

@@ -2,7 +2,7 @@
 use crate::task_record::TaskRecord;
 
 /// A call of a task that is shown.
-#[derive(Drop, Debug)]
+#[derive(Drop)]
 pub struct Call {
     pub rec: TaskRecord,
     /// For each argument whether its object was pending and gets a new version.

@@ -10,7 +10,7 @@ pub enum ImageKind {
 }
 
 /// What stands before an image's bytes.
-#[derive(Clone, Copy, PartialEq, Eq, Debug)]
+#[derive(Clone, Copy, PartialEq, Eq)]
 pub struct ImageHead {
     pub kind: ImageKind,
     pub line: Line,

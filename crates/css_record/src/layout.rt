@@ -1,7 +1,7 @@
 //! Where main's live bytes stand.
 
 /// The addresses at which the parts of main's memory begin and end.
-#[derive(Clone, Copy, PartialEq, Eq, Debug)]
+#[derive(Clone, Copy, PartialEq, Eq)]
 pub struct Layout {
     /// Behind the last global.
     pub globals_end: u32,

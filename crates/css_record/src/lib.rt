@@ -5,8 +5,6 @@ mod call;
 mod image;
 mod layout;
 mod task_record;
-#[cfg(test)]
-mod tests;
 mod version;
 mod window;
 

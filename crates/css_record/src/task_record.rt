@@ -4,7 +4,7 @@ use crate::window::Window;
 use css_base::Line;
 
 /// A task: a call that was made one.
-#[derive(Drop, Debug)]
+#[derive(Drop)]
 pub struct TaskRecord {
     /// Tasks are numbered from 0 in order of their calls.
     pub number: u64,

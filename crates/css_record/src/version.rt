@@ -1,7 +1,7 @@
 //! Versions of objects.
 
 /// A version of an object.
-#[derive(Clone, Copy, PartialEq, Eq, Debug)]
+#[derive(Clone, Copy, PartialEq, Eq)]
 pub enum VersionName {
     /// The one at this place of the list that is given with a task.
     Given(u32),

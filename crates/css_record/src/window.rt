@@ -5,7 +5,7 @@ ghost use Rattle.css_record.specs.Windows.{window, IsWindow};
 
 /// The bytes of main's memory that a task is given for a pointer: `rows` rows of `width` bytes from `base`, each `stride` bytes
 /// behind the one before. Rows that nothing parts are written as one row, whose stride is its width.
-#[derive(Clone, Copy, PartialEq, Eq, Debug)]
+#[derive(Clone, Copy, PartialEq, Eq)]
 pub struct Window {
     pub base: u32,
     pub rows: u32,

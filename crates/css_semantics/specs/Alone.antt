@@ -1,7 +1,8 @@
 -- A task by itself: a memory of the bytes that it is given and of its own stack, judged by the rules on tasks.
 use Rattle.std.specs.Prelude.{ℕ, zero, suc, ◌+◌, ◌-◌, Bool, false, List, [], ◌∷◌, ◌++◌, length, take, drop, replicate, map, flat_map, slice_index, nat_le, ◌==◌, ◌&&◌, if◌then◌else◌}
 use Rattle.css_base.specs.declared.limits.Limits.{Limits}
-use Rattle.css_semantics.specs.Dialogue.{Action, Enter, Leave, Load, Store, Tape, Reply, Says, Fails, World}
+use Rattle.css_semantics.specs.Dialogue.{Action, Tape, Reply, Says, Fails, World}
+use Rattle.css_semantics.specs.Actions.{Access, Enters, Leaves, Loads, Stores, NoAccess, access_of}
 use Rattle.css_semantics.specs.Worlds.{world_of, state_after}
 use Rattle.css_semantics.specs.Memory.{big_endian, is_between, overlaid}
 use Rattle.css_semantics.specs.Tasks.{Window, Use, window_length, reads, writes, Body, entry_of, body_behind}
@@ -46,14 +47,18 @@ abbrev pub overlaid_region : (address : ℕ) (new : List ℕ) → Region → Reg
 overlaid_region address new r = record r { bytes = overlaid r.base r.bytes address new }
 
 -- what an action does to the memory
-abbrev pub task_after : TaskMemory → Action → TaskMemory
-task_after m (Enter size) = record m { stack = replicate size 0 ++ m.stack }
-task_after m (Leave base size) = record m { stack = drop size m.stack }
-task_after m (Store address new) = record m {
+abbrev pub task_accessed : TaskMemory → Access → TaskMemory
+task_accessed m (Enters size) = record m { stack = replicate size 0 ++ m.stack }
+task_accessed m (Leaves base size) = record m { stack = drop size m.stack }
+task_accessed m (Loads address width) = m
+task_accessed m (Stores address new) = record m {
   regions = map (overlaid_region address new) m.regions;
   stack = overlaid (task_place m) m.stack address new;
 }
-task_after m _ = m
+task_accessed m NoAccess = m
+
+abbrev pub task_after : TaskMemory → Action → TaskMemory
+task_after m action = task_accessed m (access_of action)
 
 -- the innermost of these frames has so many bytes
 abbrev pub is_first : (size : ℕ) → (frames : List ℕ) → Bool
@@ -65,11 +70,15 @@ abbrev pub is_innermost : TaskMemory → (frames : List ℕ) → (base size : �
 is_innermost m frames base size = (base + length m.stack == m.place) && (nat_le size (length m.stack) && is_first size frames)
 
 -- the reply to an action that no rule refuses, where these frames are open: only the innermost frame is left
+abbrev pub access_reply : TaskMemory → (frames : List ℕ) → Access → Reply
+access_reply m frames (Enters size) = Says (task_place m - size)
+access_reply m frames (Leaves base size) = if is_innermost m frames base size then Says 0 else Fails
+access_reply m frames (Loads address width) = Says (big_endian (task_bytes m address width))
+access_reply m frames (Stores address bytes) = Says 0
+access_reply m frames NoAccess = Says 0
+
 abbrev pub task_reply : TaskMemory → (frames : List ℕ) → Action → Reply
-task_reply m frames (Enter size) = Says (task_place m - size)
-task_reply m frames (Leave base size) = if is_innermost m frames base size then Says 0 else Fails
-task_reply m frames (Load address width) = Says (big_endian (task_bytes m address width))
-task_reply m frames _ = Says 0
+task_reply m frames action = access_reply m frames (access_of action)
 
 -- ---- what a task is given, and what it leaves
 
@@ -118,9 +127,15 @@ abbrev pub alone_behind : Solitude → Action → Solitude
 alone_behind s action = record { memory = task_after s.memory action; body = body_behind s.body action }
 
 -- a leaving that fails changes nothing
+abbrev pub alone_by : Solitude → Access → (behind : Solitude) → Solitude
+alone_by s (Enters size) behind = behind
+alone_by s (Leaves base size) behind = if is_innermost s.memory s.body.frames base size then behind else s
+alone_by s (Loads address width) behind = behind
+alone_by s (Stores address bytes) behind = behind
+alone_by s NoAccess behind = behind
+
 abbrev pub alone_after : Solitude → Action → Solitude
-alone_after s (Leave base size) = if is_innermost s.memory s.body.frames base size then alone_behind s (Leave base size) else s
-alone_after s action = alone_behind s action
+alone_after s action = alone_by s (access_of action) (alone_behind s action)
 
 -- a task with these windows, inputs and stack place, before its entry
 abbrev pub at_entry : List Use → (inputs : List (List ℕ)) → (place : ℕ) → Solitude

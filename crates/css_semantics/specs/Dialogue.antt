@@ -16,13 +16,14 @@ pub record Argument : Type 0 where
   pub is_strided : Bool
   pub direction : Direction
 
--- a call of a task: its number among the functions, its integer arguments, its pointers in order of parameters, and main's stack
--- place
+-- a call of a task: its number among the functions, its integer arguments, its pointers in order of parameters, main's stack place,
+-- and whether it goes before others
 pub record Call : Type 0 where
   pub function : ℕ
   pub scalars : List ℕ
   pub arguments : List Argument
   pub stack_place : ℕ
+  pub is_high : Bool
 
 -- one thing that a program asks or does
 pub data Action : Type 0 where
@@ -115,8 +116,20 @@ tell w action line a tape = then_do (ask w action line tape) (λ r t. Goes a t)
 
 -- the bytes that an action writes
 abbrev pub written_by : Action → List ℕ
+written_by (Enter size) = []
+written_by Turn = []
+written_by (Leave base size) = []
+written_by (Load address width) = []
+written_by (Store address bytes) = []
 written_by (Out bytes) = bytes
-written_by _ = []
+written_by (Calls call) = []
+written_by Returns = []
+written_by Start = []
+written_by Finish = []
+written_by Barrier = []
+written_by (Wait address) = []
+written_by (Fault kind) = []
+written_by (End result) = []
 
 -- all that a tape writes, the oldest first
 abbrev pub output : Tape → List ℕ

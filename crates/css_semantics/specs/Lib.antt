@@ -1,4 +1,5 @@
 pub mod Dialogue
+pub mod Actions
 pub mod Worlds
 pub mod Units
 pub mod Memory
@@ -10,4 +11,4 @@ pub mod Clear
 pub mod Verdict
 pub mod Alone
 pub mod TaskSpaces
-pub mod Rows
+pub mod WithWindow

@@ -1,6 +1,7 @@
 -- The flat memory: live bytes of globals, of the heap and of the stack.
 use Rattle.std.specs.Prelude.{ℕ, zero, suc, ◌+◌, ◌-◌, ◌*◌, ◌/◌, ◌%◌, List, [], ◌∷◌, ◌++◌, length, drop, replicate, fold, slice_index, Bool, true, nat_le, nat_lt, ◌&&◌, ◌||◌, if◌then◌else◌}
-use Rattle.css_semantics.specs.Dialogue.{Action, Enter, Leave, Store, Tape}
+use Rattle.css_semantics.specs.Dialogue.{Action, Tape}
+use Rattle.css_semantics.specs.Actions.{Access, Enters, Leaves, Loads, Stores, NoAccess, access_of}
 use Rattle.css_semantics.specs.Worlds.{state_after}
 
 -- the value of big-endian bytes
@@ -100,11 +101,15 @@ stored m address new = record m {
 
 -- what an action does to the memory: an entry adds a frame of zeros below the stack place, a leaving takes it away, and a store
 -- that isn't wholly live changes nothing
+abbrev pub accessed : Memory → Access → Memory
+accessed m (Enters size) = record m { stack = replicate size 0 ++ m.stack; calls = m.calls + 1 }
+accessed m (Leaves base size) = record m { stack = drop size m.stack; calls = m.calls - 1 }
+accessed m (Loads address width) = m
+accessed m (Stores address bytes) = if is_live m address (length bytes) then stored m address bytes else m
+accessed m NoAccess = m
+
 abbrev pub after : Memory → Action → Memory
-after m (Enter size) = record m { stack = replicate size 0 ++ m.stack; calls = m.calls + 1 }
-after m (Leave base size) = record m { stack = drop size m.stack; calls = m.calls - 1 }
-after m (Store address bytes) = if is_live m address (length bytes) then stored m address bytes else m
-after m _ = m
+after m action = accessed m (access_of action)
 
 -- the memory after a tape, from the one before main's entry
 abbrev pub memory_after : Memory → Tape → Memory

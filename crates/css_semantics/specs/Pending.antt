@@ -1,7 +1,7 @@
 -- Which objects are pending: tasks may still read or write them.
-use Rattle.std.specs.Prelude.{ℕ, Bool, true, not, ◌||◌, List, [], ◌∷◌, ◌++◌, length, filter, map, fold, ◌==◌, is_none, if◌then◌else◌}
+use Rattle.std.specs.Prelude.{ℕ, Bool, true, false, not, ◌||◌, List, [], ◌∷◌, ◌++◌, length, filter, map, fold, ◌==◌, is_none, if◌then◌else◌}
 use Rattle.std.specs.List.{list_any}
-use Rattle.css_semantics.specs.Dialogue.{Action, Store, Calls, Finish, Barrier, Wait, End, Tape, Argument}
+use Rattle.css_semantics.specs.Dialogue.{Action, Enter, Turn, Leave, Load, Store, Out, Calls, Returns, Start, Finish, Barrier, Wait, Fault, End, Tape, Argument}
 use Rattle.css_semantics.specs.Memory.{all_from}
 use Rattle.css_semantics.specs.Tasks.{Window, window, has_byte, is_same_window, writes, body}
 
@@ -31,12 +31,21 @@ without_stored objects address width = filter (λ o. o.is_written || not (some_f
 -- Only main's calls and main's stores count.
 abbrev pub pending_after : (is_main : Bool) → List Object → Action → List Object
 pending_after true objects (Calls call) = fold with_argument objects call.arguments
+pending_after false objects (Calls call) = objects
 pending_after true objects (Store address bytes) = without_stored objects address (length bytes)
+pending_after false objects (Store address bytes) = objects
 pending_after is_main objects (Wait address) = filter (λ o. not (o.window.base == address)) objects
 pending_after is_main objects Barrier = []
 pending_after is_main objects Finish = []
 pending_after is_main objects (End result) = []
-pending_after is_main objects _ = objects
+pending_after is_main objects (Enter size) = objects
+pending_after is_main objects Turn = objects
+pending_after is_main objects (Leave base size) = objects
+pending_after is_main objects (Load address width) = objects
+pending_after is_main objects (Out bytes) = objects
+pending_after is_main objects Returns = objects
+pending_after is_main objects Start = objects
+pending_after is_main objects (Fault kind) = objects
 
 abbrev pub pending : Tape → List Object
 pending [] = []

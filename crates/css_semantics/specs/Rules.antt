@@ -1,12 +1,13 @@
 -- The rules of a run, and the first one that an action breaks.
-use Rattle.std.specs.Prelude.{ℕ, zero, suc, ◌+◌, ◌-◌, ◌^◌, ℤ, pos, Bool, true, false, not, ◌&&◌, ◌||◌, List, [], ◌∷◌, length, filter, find, map, fold, nat_le, nat_lt, Option, Some, None, option_map}
+use Rattle.std.specs.Prelude.{ℕ, zero, suc, ◌+◌, ◌-◌, ◌^◌, ℤ, pos, negsuc, int_lt, Bool, true, false, not, ◌&&◌, ◌||◌, List, [], ◌∷◌, length, filter, find, map, fold, nat_le, nat_lt, Option, Some, None, option_map}
 use Rattle.std.specs.List.{list_any, list_all}
 use Rattle.css_base.specs.declared.limits.Limits.{Limits}
 use Rattle.css_semantics.specs.declared.TheConstants.{MAIN_STACK_LIMIT, MAIN_OPEN_CALLS}
 use Rattle.css_base.specs.declared.direction.Direction.{Direction}
 use Rattle.css_base.specs.declared.rule.Rule.{Rule}
 use Rattle.css_base.specs.declared.rule.Rule.TheVariants as rules
-use Rattle.css_semantics.specs.Dialogue.{Action, Enter, Leave, Load, Store, Calls, Returns, Start, Finish, Tape, Reply, Refuses, World, Argument}
+use Rattle.css_semantics.specs.Dialogue.{Action, Tape, Reply, Refuses, World, Argument}
+use Rattle.css_semantics.specs.Actions.{Access, Enters, Leaves, Loads, Stores, NoAccess, access_of, Boundary, BodyBegins, BodyEnds, NoBoundary, boundary_of, Directive, Starting, Finishing, AtBarrier, WaitingOn, NoDirective, directive_of}
 use Rattle.css_semantics.specs.Memory.{Memory, StackLimit, rounded_up, all_from, is_between, is_live_byte, memory_after}
 use Rattle.css_semantics.specs.Tasks.{Window, window, has_byte, is_same_window, window_length, span, reads, writes, Body, body, unit_of, is_started, main_units}
 use Rattle.css_semantics.specs.Pending.{Object, some_from, pending}
@@ -38,25 +39,41 @@ is_too_deep limit frames size = nat_lt limit.bytes (fold (λ sum frame. sum + fr
 
 -- ---- X1 and X2: directives of main
 
+abbrev pub starts_twice : (is_started : Bool) → Directive → Bool
+starts_twice is_started Starting = is_started
+starts_twice is_started Finishing = false
+starts_twice is_started AtBarrier = false
+starts_twice is_started (WaitingOn address) = false
+starts_twice is_started NoDirective = false
+
 abbrev pub is_start_twice : Tape → Action → Bool
-is_start_twice tape Start = is_started tape
-is_start_twice tape _ = false
+is_start_twice tape action = starts_twice (is_started tape) (directive_of action)
+
+abbrev pub finishes_without : (is_started : Bool) → Directive → Bool
+finishes_without is_started Starting = false
+finishes_without is_started Finishing = not is_started
+finishes_without is_started AtBarrier = false
+finishes_without is_started (WaitingOn address) = false
+finishes_without is_started NoDirective = false
 
 abbrev pub is_finish_without : Tape → Action → Bool
-is_finish_without tape Finish = not (is_started tape)
-is_finish_without tape _ = false
+is_finish_without tape action = finishes_without (is_started tape) (directive_of action)
 
 -- ---- X3 to X7: what a task's call is given
 
 -- a number that a dimension may be
 abbrev pub is_dimension : ℤ → Bool
 is_dimension (pos n) = nat_le 1 n && nat_lt n (2 ^ 63)
-is_dimension _ = false
+is_dimension (negsuc n) = false
 
 -- the width of a row is over the stride
 abbrev pub overlaps_itself : Bool → List ℤ → Bool
-overlaps_itself true (rows ∷ pos width ∷ pos stride ∷ []) = nat_lt stride width
-overlaps_itself _ _ = false
+overlaps_itself false dimensions = false
+overlaps_itself true [] = false
+overlaps_itself true (rows ∷ []) = false
+overlaps_itself true (rows ∷ width ∷ []) = false
+overlaps_itself true (rows ∷ width ∷ stride ∷ []) = int_lt stride width
+overlaps_itself true (rows ∷ width ∷ stride ∷ d ∷ more) = false
 
 abbrev pub has_bad_dimension : Argument → Bool
 has_bad_dimension a =
@@ -86,9 +103,14 @@ has_alias [] = false
 has_alias (a ∷ arguments) =
     list_any (λ b. is_same_window (window a) (window b) && (writes a.direction || writes b.direction)) arguments || has_alias arguments
 
+-- a test of what a call is given, which nothing else fails
+abbrev pub of_given : (List Argument → Bool) → Boundary → Bool
+of_given test (BodyBegins call) = test call.arguments
+of_given test BodyEnds = false
+of_given test NoBoundary = false
+
 abbrev pub of_arguments : (List Argument → Bool) → Action → Bool
-of_arguments test (Calls call) = test call.arguments
-of_arguments test _ = false
+of_arguments test action = of_given test (boundary_of action)
 
 -- ---- X8: main and pending objects
 
@@ -96,11 +118,15 @@ abbrev pub meets : (Object → Bool) → List Object → (address width : ℕ) �
 meets which objects address width = list_any (λ o. which o && some_from (has_byte o.window) address width) objects
 
 -- main loads or stores a byte that a task may write, or leaves a frame that meets a pending object
+abbrev pub meets_pending : List Object → Access → Bool
+meets_pending objects (Enters size) = false
+meets_pending objects (Leaves base size) = meets (λ o. true) objects base size
+meets_pending objects (Loads address width) = meets (λ o. o.is_written) objects address width
+meets_pending objects (Stores address bytes) = meets (λ o. o.is_written) objects address (length bytes)
+meets_pending objects NoAccess = false
+
 abbrev pub is_unsynchronised : List Object → Action → Bool
-is_unsynchronised objects (Load address width) = meets (λ o. o.is_written) objects address width
-is_unsynchronised objects (Store address bytes) = meets (λ o. o.is_written) objects address (length bytes)
-is_unsynchronised objects (Leave base size) = meets (λ o. true) objects base size
-is_unsynchronised objects _ = false
+is_unsynchronised objects action = meets_pending objects (access_of action)
 
 -- ---- X9 to X12: a task and what it was given
 
@@ -124,10 +150,15 @@ abbrev pub is_outside : Body → (address size : ℕ) → Bool
 is_outside b address size =
     not (list_any (λ u. is_in_window u.window address size) b.uses || is_in_frame b.place b.frames address size)
 
+abbrev pub lies_outside : Body → Access → Bool
+lies_outside b (Enters size) = false
+lies_outside b (Leaves base size) = false
+lies_outside b (Loads address width) = is_outside b address width
+lies_outside b (Stores address bytes) = is_outside b address (length bytes)
+lies_outside b NoAccess = false
+
 abbrev pub is_outside_arguments : Body → Action → Bool
-is_outside_arguments b (Load address width) = is_outside b address width
-is_outside_arguments b (Store address bytes) = is_outside b address (length bytes)
-is_outside_arguments b _ = false
+is_outside_arguments b action = lies_outside b (access_of action)
 
 -- the byte at an address is in a window of such a direction
 abbrev pub is_given_for : (Direction → Bool) → Body → ℕ → Bool
@@ -140,28 +171,51 @@ has_stored b address = list_any (λ r. is_between r.base (r.base + r.size) addre
 abbrev pub is_unwritten : Body → ℕ → Bool
 is_unwritten b address = is_given_for (λ d. not (reads d)) b address && not (has_stored b address)
 
+abbrev pub writes_input : Body → Access → Bool
+writes_input b (Enters size) = false
+writes_input b (Leaves base size) = false
+writes_input b (Loads address width) = false
+writes_input b (Stores address bytes) = some_from (is_given_for (λ d. not (writes d)) b) address (length bytes)
+writes_input b NoAccess = false
+
 abbrev pub is_input_written : Body → Action → Bool
-is_input_written b (Store address bytes) = some_from (is_given_for (λ d. not (writes d)) b) address (length bytes)
-is_input_written b _ = false
+is_input_written b action = writes_input b (access_of action)
+
+abbrev pub reads_unwritten : Body → Access → Bool
+reads_unwritten b (Enters size) = false
+reads_unwritten b (Leaves base size) = false
+reads_unwritten b (Loads address width) = some_from (is_unwritten b) address width
+reads_unwritten b (Stores address bytes) = false
+reads_unwritten b NoAccess = false
 
 abbrev pub is_unwritten_read : Body → Action → Bool
-is_unwritten_read b (Load address width) = some_from (is_unwritten b) address width
-is_unwritten_read b _ = false
+is_unwritten_read b action = reads_unwritten b (access_of action)
+
+abbrev pub leaves_unwritten : Body → Boundary → Bool
+leaves_unwritten b (BodyBegins call) = false
+leaves_unwritten b BodyEnds = list_any (λ u. not (all_of_window (λ address. not (is_unwritten b address)) u.window)) b.uses
+leaves_unwritten b NoBoundary = false
 
 abbrev pub is_left_unwritten : Body → Action → Bool
-is_left_unwritten b Returns = list_any (λ u. not (all_of_window (λ address. not (is_unwritten b address)) u.window)) b.uses
-is_left_unwritten b _ = false
+is_left_unwritten b action = leaves_unwritten b (boundary_of action)
 
 -- ---- X13, X14 and X15: stacks and units
 
+-- a test of the frame that is entered, which nothing else fails
+abbrev pub of_frame : (ℕ → Bool) → Access → Bool
+of_frame test (Enters size) = test size
+of_frame test (Leaves base size) = false
+of_frame test (Loads address width) = false
+of_frame test (Stores address bytes) = false
+of_frame test NoAccess = false
+
 abbrev pub is_entry_too_deep : StackLimit → List ℕ → Action → Bool
-is_entry_too_deep limit frames (Enter size) = is_too_deep limit frames size
-is_entry_too_deep limit frames _ = false
+is_entry_too_deep limit frames action = of_frame (is_too_deep limit frames) (access_of action)
 
 -- with one more frame main's stack, which is the memory's, would pass its limit
 abbrev pub is_main_too_deep : Memory → Action → Bool
-is_main_too_deep m (Enter size) = nat_lt main_stack.bytes (length m.stack + size) || nat_le main_stack.calls m.calls
-is_main_too_deep m _ = false
+is_main_too_deep m action =
+    of_frame (λ size. nat_lt main_stack.bytes (length m.stack + size) || nat_le main_stack.calls m.calls) (access_of action)
 
 -- an action takes a unit where none is left
 abbrev pub wants_unit : (limit used : ℕ) → Action → Bool

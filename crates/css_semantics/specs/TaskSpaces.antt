@@ -3,7 +3,8 @@
 use Rattle.std.specs.Prelude.{ℕ, ◌+◌, ◌-◌, ◌≤◌, Bool, ◌||◌, ◌&&◌, List, [], ◌∷◌, length, fold, All, ◌⊎◌, nat_le, if◌then◌else◌}
 use Rattle.std.specs.List.{list_any}
 use Rattle.css_base.specs.declared.rule.Rule.TheVariants as rules
-use Rattle.css_semantics.specs.Dialogue.{Action, Enter, Leave, Load, Store, Reply, Says, Fails, Refuses}
+use Rattle.css_semantics.specs.Dialogue.{Action, Reply, Says, Fails, Refuses}
+use Rattle.css_semantics.specs.Actions.{Access, Enters, Leaves, Loads, Stores, NoAccess, access_of}
 use Rattle.css_semantics.specs.Memory.{big_endian}
 use Rattle.css_semantics.specs.Tasks.{frames_after}
 use Rattle.css_semantics.specs.Rules.{task_stack, is_too_deep, is_in_frame}
@@ -30,21 +31,30 @@ abbrev pub entry_reply : (place size : ℕ) → Reply
 entry_reply place size = if nat_le size place then Says (place - size) else Fails
 
 -- the reply to an action, without units
-abbrev pub space_reply : TaskState → Action → Reply
-space_reply s (Enter size) = if is_too_deep task_stack s.frames size then Refuses rules.TaskStack else entry_reply (place_of s) size
-space_reply s (Leave base size) = if is_innermost s.memory s.frames base size then Says 0 else Fails
-space_reply s (Load address width) =
+abbrev pub reply_to : TaskState → Access → Reply
+reply_to s (Enters size) = if is_too_deep task_stack s.frames size then Refuses rules.TaskStack else entry_reply (place_of s) size
+reply_to s (Leaves base size) = if is_innermost s.memory s.frames base size then Says 0 else Fails
+reply_to s (Loads address width) =
     if is_given s address width then Says (big_endian (task_bytes s.memory address width)) else Refuses rules.OutsideArguments
-space_reply s (Store address bytes) = if is_given s address (length bytes) then Says 0 else Refuses rules.OutsideArguments
-space_reply s _ = Says 0
+reply_to s (Stores address bytes) = if is_given s address (length bytes) then Says 0 else Refuses rules.OutsideArguments
+reply_to s NoAccess = Says 0
+
+abbrev pub space_reply : TaskState → Action → Reply
+space_reply s action = reply_to s (access_of action)
 
 abbrev pub space_behind : TaskState → Action → TaskState
 space_behind s action = record { memory = task_after s.memory action; frames = frames_after s.frames action }
 
 -- what an action does: a leaving that fails changes nothing
+abbrev pub space_by : TaskState → Access → (behind : TaskState) → TaskState
+space_by s (Enters size) behind = behind
+space_by s (Leaves base size) behind = if is_innermost s.memory s.frames base size then behind else s
+space_by s (Loads address width) behind = behind
+space_by s (Stores address bytes) behind = behind
+space_by s NoAccess behind = behind
+
 abbrev pub space_after : TaskState → Action → TaskState
-space_after s (Leave base size) = if is_innermost s.memory s.frames base size then space_behind s (Leave base size) else s
-space_after s action = space_behind s action
+space_after s action = space_by s (access_of action) (space_behind s action)
 
 -- ---- where the bytes are
 

@@ -1,8 +1,9 @@
 -- What a tape says of tasks: whether calls make them, which one runs, its windows and frames, and what main has used.
-use Rattle.std.specs.Prelude.{ℕ, zero, suc, ◌+◌, ◌-◌, ◌*◌, ℤ, pos, Bool, true, false, ◌&&◌, ◌||◌, List, [], ◌∷◌, drop, length, fold, map, ◌==◌, Option, Some, None, is_none, option_map, if◌then◌else◌}
+use Rattle.std.specs.Prelude.{ℕ, zero, suc, ◌+◌, ◌-◌, ◌*◌, ℤ, pos, negsuc, Bool, true, false, ◌&&◌, ◌||◌, List, [], ◌∷◌, drop, length, fold, map, ◌==◌, Option, Some, None, is_none, option_map, if◌then◌else◌}
 use Rattle.css_base.specs.declared.direction.Direction.{Direction}
 use Rattle.css_base.specs.declared.direction.Direction.TheVariants as directions
-use Rattle.css_semantics.specs.Dialogue.{Action, Enter, Turn, Leave, Store, Calls, Returns, Start, Finish, Tape, Argument, Call}
+use Rattle.css_semantics.specs.Dialogue.{Action, Tape, Argument, Call}
+use Rattle.css_semantics.specs.Actions.{Access, Enters, Leaves, Loads, Stores, NoAccess, access_of, Taking, OnEntry, OnTurn, NoUnit, taking_of, Boundary, BodyBegins, BodyEnds, NoBoundary, boundary_of, Directive, Starting, Finishing, AtBarrier, WaitingOn, NoDirective, directive_of}
 use Rattle.css_semantics.specs.Worlds.{state_after}
 use Rattle.css_semantics.specs.Memory.{is_between}
 
@@ -28,7 +29,7 @@ strided base rows width stride =
 -- a dimension that is a number of things
 abbrev pub count : ℤ → ℕ
 count (pos n) = n
-count _ = 0
+count (negsuc n) = 0
 
 -- Where no dimension is strided, a window is one row of as many elements as the dimensions' product is.
 abbrev pub window_of_dimensions : Bool → (base element : ℕ) → List ℤ → Window
@@ -76,10 +77,15 @@ writes directions.InOut = true
 
 -- ---- whether calls of tasks make tasks
 
+abbrev pub started_by : Directive → (before : Bool) → Bool
+started_by Starting before = true
+started_by Finishing before = false
+started_by AtBarrier before = before
+started_by (WaitingOn address) before = before
+started_by NoDirective before = before
+
 abbrev pub started_after : Bool → Action → Bool
-started_after before Start = true
-started_after before Finish = false
-started_after before _ = before
+started_after before action = started_by (directive_of action) before
 
 abbrev pub is_started : Tape → Bool
 is_started tape = state_after started_after false tape
@@ -109,20 +115,35 @@ pub record Body : Type 0 where
   pub stored : List Range
 
 -- whether an action takes a unit, as a number
+abbrev pub units_of : Taking → ℕ
+units_of OnEntry = 1
+units_of OnTurn = 1
+units_of NoUnit = 0
+
 abbrev pub unit_of : Action → ℕ
-unit_of (Enter size) = 1
-unit_of Turn = 1
-unit_of _ = 0
+unit_of action = units_of (taking_of action)
 
 -- the open frames behind an action
+abbrev pub frames_by : List ℕ → Access → List ℕ
+frames_by frames (Enters size) = size ∷ frames
+frames_by frames (Leaves base size) = drop 1 frames
+frames_by frames (Loads address width) = frames
+frames_by frames (Stores address bytes) = frames
+frames_by frames NoAccess = frames
+
 abbrev pub frames_after : List ℕ → Action → List ℕ
-frames_after frames (Enter size) = size ∷ frames
-frames_after frames (Leave base size) = drop 1 frames
-frames_after frames _ = frames
+frames_after frames action = frames_by frames (access_of action)
+
+-- the bytes that are stored behind an action
+abbrev pub stored_by : List Range → Access → List Range
+stored_by ranges (Enters size) = ranges
+stored_by ranges (Leaves base size) = ranges
+stored_by ranges (Loads address width) = ranges
+stored_by ranges (Stores address bytes) = record { base = address; size = length bytes } ∷ ranges
+stored_by ranges NoAccess = ranges
 
 abbrev pub stored_after : List Range → Action → List Range
-stored_after ranges (Store address bytes) = record { base = address; size = length bytes } ∷ ranges
-stored_after ranges _ = ranges
+stored_after ranges action = stored_by ranges (access_of action)
 
 abbrev pub body_behind : Body → Action → Body
 body_behind b action = record {
@@ -137,19 +158,26 @@ body_behind b action = record {
 abbrev pub entry_of : List Use → (place : ℕ) → Body
 entry_of uses place = record { uses = uses; place = place; frames = []; units = 0; stored = [] }
 
+abbrev pub body_by : Boundary → (behind : Option Body) → Option Body
+body_by (BodyBegins call) behind = Some (entry_of (map use_of call.arguments) call.stack_place)
+body_by BodyEnds behind = None
+body_by NoBoundary behind = behind
+
 abbrev pub body_after : Option Body → Action → Option Body
-body_after body (Calls call) = Some (entry_of (map use_of call.arguments) call.stack_place)
-body_after body Returns = None
-body_after body action = option_map (λ b. body_behind b action) body
+body_after body action = body_by (boundary_of action) (option_map (λ b. body_behind b action) body)
 
 -- the task's call that hasn't returned, if there is one
 abbrev pub body : Tape → Option Body
 body tape = state_after body_after None tape
 
 -- how many tasks were called
+abbrev pub called_by : Boundary → (before : ℕ) → ℕ
+called_by (BodyBegins call) before = before + 1
+called_by BodyEnds before = before
+called_by NoBoundary before = before
+
 abbrev pub called_after : ℕ → Action → ℕ
-called_after n (Calls call) = n + 1
-called_after n _ = n
+called_after before action = called_by (boundary_of action) before
 
 abbrev pub called : Tape → ℕ
 called tape = state_after called_after 0 tape

@@ -1,7 +1,8 @@
 -- Units: each entry of a function and each entry of a loop's body takes one.
 use Rattle.std.specs.Prelude.{ℕ, zero, ◌-◌}
 use Rattle.css_base.specs.declared.rule.Rule.TheVariants as rules
-use Rattle.css_semantics.specs.Dialogue.{Action, Enter, Turn, Reply, Says, Refuses}
+use Rattle.css_semantics.specs.Dialogue.{Action, Reply, Says, Refuses}
+use Rattle.css_semantics.specs.Actions.{Taking, OnEntry, OnTurn, NoUnit, taking_of}
 
 -- a state, and the units that are left
 pub record Metered (S : Type 0) : Type 0 where
@@ -17,12 +18,20 @@ abbrev pub within : ℕ → Reply → Reply
 within zero (Says value) = Refuses rules.Units
 within units reply = reply
 
+-- the state replies to an entry, and to what takes no unit; the units alone to a turn
+abbrev pub metered_by : Taking → (units : ℕ) → Reply → Reply
+metered_by OnEntry units reply = within units reply
+metered_by OnTurn units reply = within units (Says 0)
+metered_by NoUnit units reply = reply
+
 abbrev pub metered : {S : Type 0} → (S → Action → Reply) → Metered S → Action → Reply
-metered reply m (Enter size) = within m.units (reply m.state (Enter size))
-metered reply m Turn = within m.units (Says 0)
-metered reply m action = reply m.state action
+metered reply m action = metered_by (taking_of action) m.units (reply m.state action)
+
+-- an entry takes a unit, and so does a turn, which does nothing to the state
+abbrev pub spending_by : {S : Type 0} → Taking → (old new : S) → (units : ℕ) → Metered S
+spending_by OnEntry old new units = with_units new (units - 1)
+spending_by OnTurn old new units = with_units old (units - 1)
+spending_by NoUnit old new units = with_units new units
 
 abbrev pub spending : {S : Type 0} → (S → Action → S) → Metered S → Action → Metered S
-spending learn m (Enter size) = with_units (learn m.state (Enter size)) (m.units - 1)
-spending learn m Turn = with_units m.state (m.units - 1)
-spending learn m action = with_units (learn m.state action) m.units
+spending learn m action = spending_by (taking_of action) m.state (learn m.state action) m.units

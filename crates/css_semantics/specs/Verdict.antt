@@ -5,7 +5,8 @@ use Rattle.css_base.specs.declared.ending.Ending.TheVariants as endings
 use Rattle.css_base.specs.declared.ending.Who.{Who}
 use Rattle.css_base.specs.declared.ending.Who.TheVariants as whose
 use Rattle.css_base.specs.declared.limits.Limits.{Limits}
-use Rattle.css_semantics.specs.Dialogue.{Action, Calls, Barrier, Finish, Wait, Item, Tape, World, Call, Outcome, Goes, Stops, Stopped, Tired, output}
+use Rattle.css_semantics.specs.Dialogue.{Action, Item, Tape, World, Call, Outcome, Goes, Stops, Stopped, Tired, output}
+use Rattle.css_semantics.specs.Actions.{Boundary, BodyBegins, BodyEnds, NoBoundary, boundary_of, Directive, Starting, Finishing, AtBarrier, WaitingOn, NoDirective, directive_of}
 use Rattle.css_semantics.specs.Memory.{Memory, bytes_at, image, memory_after}
 use Rattle.css_semantics.specs.Flat.{no_frames, in_memory}
 use Rattle.css_semantics.specs.Tasks.{Window, is_started, inside}
@@ -19,8 +20,13 @@ pub record CallIn : Type 0 where
   pub call : Call
   pub line : ℕ
 
+abbrev pub calls_at : Boundary → (line : ℕ) → List CallIn
+calls_at (BodyBegins call) line = record { call = call; line = line } ∷ []
+calls_at BodyEnds line = []
+calls_at NoBoundary line = []
+
 abbrev pub calls_by : Item → List CallIn
-calls_by i = elim i.action [ Calls call ↦ record { call = call; line = i.line } ∷ [] | _ ↦ [] ]
+calls_by i = calls_at (boundary_of i.action) i.line
 
 -- all calls of tasks, the first first: their numbers are their places
 abbrev pub calls : Tape → List CallIn
@@ -29,8 +35,15 @@ calls (i ∷ tape) = calls tape ++ calls_by i
 
 -- ---- images
 
--- an image: its line, the address that was waited for or 0, and its bytes
+-- what an image is taken at: a barrier, a finish, or a wait
+pub data ImageKind : Type 0 where
+  OfBarrier : ImageKind
+  OfFinish : ImageKind
+  OfWait : ImageKind
+
+-- an image: its kind, its line, the address that was waited for or 0, and its bytes
 pub record Image : Type 0 where
+  pub kind : ImageKind
   pub line : ℕ
   pub address : ℕ
   pub bytes : List ℕ
@@ -44,23 +57,27 @@ abbrev pub bytes_of_window : Memory → Window → List ℕ
 bytes_of_window m w = bytes_of_rows m w.rows w.base w.width w.stride
 
 -- at a barrier and at a finish while started: all live bytes
-abbrev pub whole_image : Memory → Tape → (line : ℕ) → List Image
-whole_image start tape line =
-    if is_started tape then record { line = line; address = 0; bytes = image (memory_after start tape) } ∷ [] else []
+abbrev pub whole_image : Memory → Tape → ImageKind → (line : ℕ) → List Image
+whole_image start tape kind line =
+    if is_started tape then record { kind = kind; line = line; address = 0; bytes = image (memory_after start tape) } ∷ [] else []
 
 -- at a wait on a pending base: the window's bytes
 abbrev pub wait_image : Memory → Tape → (line address : ℕ) → List Image
 wait_image start tape line address =
     elim (find (λ o. o.window.base == address) (pending tape)) [
       | None ↦ []
-      | Some o ↦ record { line = line; address = address; bytes = bytes_of_window (memory_after start tape) o.window } ∷ []
+      | Some o ↦ record { kind = OfWait; line = line; address = address; bytes = bytes_of_window (memory_after start tape) o.window } ∷ []
     ]
 
+abbrev pub images_at : Memory → Tape → Directive → (line : ℕ) → List Image
+images_at start tape Starting line = []
+images_at start tape Finishing line = whole_image start tape OfFinish line
+images_at start tape AtBarrier line = whole_image start tape OfBarrier line
+images_at start tape (WaitingOn address) line = wait_image start tape line address
+images_at start tape NoDirective line = []
+
 abbrev pub images_by : Memory → Tape → Action → (line : ℕ) → List Image
-images_by start tape Barrier line = whole_image start tape line
-images_by start tape Finish line = whole_image start tape line
-images_by start tape (Wait address) line = wait_image start tape line address
-images_by start tape _ line = []
+images_by start tape action line = images_at start tape (directive_of action) line
 
 -- all images, the first first
 abbrev pub images : Memory → Tape → List Image

@@ -1,6 +1,7 @@
 -- Worlds that keep a state, which is folded over the tape.
 use Rattle.std.specs.Prelude.{◌≡◌, [], ◌∷◌, ◌++◌, Bool, true, false, ◌||◌, IsTrue}
-use Rattle.css_semantics.specs.Dialogue.{Action, Enter, Turn, Leave, Load, Store, Fault, Item, Tape, Reply, World}
+use Rattle.css_semantics.specs.Dialogue.{Action, Item, Tape, Reply, World}
+use Rattle.css_semantics.specs.Actions.{Kind, OfMachine, OfMain, OfTasks, OfFault, kind_of}
 
 -- the state after a tape, from a first one
 abbrev pub state_after : {S : Type 0} → (S → Action → S) → S → Tape → S
@@ -12,17 +13,23 @@ abbrev pub world_of : {S : Type 0} → (S → Action → Reply) → (S → Actio
 world_of reply learn start tape i = reply (state_after learn start tape) i.action
 
 -- an action to which a machine's space or its units reply
+abbrev pub is_machines : Kind → Bool
+is_machines OfMachine = true
+is_machines OfMain = false
+is_machines OfTasks = false
+is_machines OfFault = false
+
 abbrev pub is_of_machine : Action → Bool
-is_of_machine (Enter size) = true
-is_of_machine Turn = true
-is_of_machine (Leave base size) = true
-is_of_machine (Load address width) = true
-is_of_machine (Store address bytes) = true
-is_of_machine _ = false
+is_of_machine action = is_machines (kind_of action)
+
+abbrev pub is_faults : Kind → Bool
+is_faults OfMachine = false
+is_faults OfMain = false
+is_faults OfTasks = false
+is_faults OfFault = true
 
 abbrev pub is_fault : Action → Bool
-is_fault (Fault kind) = true
-is_fault _ = false
+is_fault action = is_faults (kind_of action)
 
 -- all items of a tape are a machine's, or faults
 abbrev pub AreOfMachine : Tape → Type 0

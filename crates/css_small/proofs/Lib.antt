@@ -1,3 +1,4 @@
+pub mod Boths
 pub mod BodyEntries
 pub mod Calls
 pub mod Entries

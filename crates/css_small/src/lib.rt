@@ -13,6 +13,3 @@ mod tree_fault;
 
 pub use front::{numbers_fit, one_reading, read_program};
 pub use tree::{Directive, Expression, Function, Program, Statement};
-
-#[cfg(test)]
-mod tests;

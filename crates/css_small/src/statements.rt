@@ -15,6 +15,7 @@ use std::alloc::Global;
 
 /// The statement that this is. `NotSmall` comes only where it is none. It recurses as deep as the tree has levels.
 #[cycle(statements)]
+#[tactic(auto, using(crate::proofs::Boths::both_none))]
 pub(crate) fn statement_of(
     alloc: Global,
     names: &Names,
@@ -42,8 +43,8 @@ pub(crate) fn statement_of(
             second: None,
         } => Ok(Statement::If {
             line: *line,
-            condition: expression_of(alloc, names, condition)?,
             body: boxed_of(alloc, names, first)?,
+            condition: expression_of(alloc, names, condition)?,
         }),
         css_tree::Statement::If {
             line,
@@ -52,9 +53,9 @@ pub(crate) fn statement_of(
             second: Some(second),
         } => Ok(Statement::IfElse {
             line: *line,
-            condition: expression_of(alloc, names, condition)?,
             body: boxed_of(alloc, names, first)?,
             other: boxed_of(alloc, names, second)?,
+            condition: expression_of(alloc, names, condition)?,
         }),
         css_tree::Statement::While {
             line,
@@ -62,8 +63,8 @@ pub(crate) fn statement_of(
             body,
         } => Ok(Statement::While {
             line: *line,
-            condition: expression_of(alloc, names, condition)?,
             body: boxed_of(alloc, names, body)?,
+            condition: expression_of(alloc, names, condition)?,
         }),
         css_tree::Statement::Return {
             line,

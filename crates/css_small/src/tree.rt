@@ -5,7 +5,6 @@ use css_num::{BinOp, UnOp};
 
 /// An expression of type int. Objects of a function are numbered from 0 in the order of its frame: a parameter, and then its
 /// variables in order of declaration.
-#[derive(Drop, Debug)]
 pub enum Expression {
     /// A constant, from 0 to 2,147,483,647.
     Number(u32),
@@ -21,6 +20,21 @@ pub enum Expression {
     Or(Box<Expression>, Box<Expression>),
 }
 
+// By hand, so that a place that lets an expression go is one call in its proof.
+impl Drop for Expression {
+    fn drop(self) {
+        match self {
+            Expression::Number(_) => {}
+            Expression::Variable(_) => {}
+            Expression::Element(_) => {}
+            Expression::Unary(_, _) => {}
+            Expression::Binary(_, _, _) => {}
+            Expression::And(_, _) => {}
+            Expression::Or(_, _) => {}
+        }
+    }
+}
+
 /// What a directive of main tells the runtime.
 #[derive(Clone, Copy, PartialEq, Eq, Debug)]
 pub enum Directive {
@@ -33,7 +47,6 @@ pub enum Directive {
 }
 
 /// A statement, declaration or directive, with the line of its first token. An `else` belongs to the nearest `if` (C99 6.8.4.1).
-#[derive(Drop, Debug)]
 pub enum Statement {
     /// `int x;`
     Declare {
@@ -110,8 +123,64 @@ pub enum Statement {
     },
 }
 
+// By hand, so that a place that lets a statement go is one call in its proof.
+impl Drop for Statement {
+    fn drop(self) {
+        match self {
+            Statement::Declare {
+                line: _,
+                variable: _,
+            } => {}
+            Statement::Initialise {
+                line: _,
+                variable: _,
+                value: _,
+            } => {}
+            Statement::Empty { line: _ } => {}
+            Statement::Assign {
+                line: _,
+                variable: _,
+                value: _,
+            } => {}
+            Statement::AssignElement {
+                line: _,
+                index: _,
+                value: _,
+            } => {}
+            Statement::Call {
+                line: _,
+                function: _,
+                variable: _,
+            } => {}
+            Statement::Directive { line: _, kind: _ } => {}
+            Statement::Put { line: _, value: _ } => {}
+            Statement::Return { line: _, value: _ } => {}
+            Statement::Block {
+                line: _,
+                statements: _,
+            } => {}
+            Statement::If {
+                line: _,
+                condition: _,
+                body: _,
+            } => {}
+            Statement::IfElse {
+                line: _,
+                condition: _,
+                body: _,
+                other: _,
+            } => {}
+            Statement::While {
+                line: _,
+                condition: _,
+                body: _,
+            } => {}
+        }
+    }
+}
+
 /// A function: main, or one that gets a pointer to an int.
-#[derive(Drop, Debug)]
+#[derive(Drop)]
 pub struct Function {
     /// Whether a directive makes a task of it.
     pub is_task: bool,
@@ -127,7 +196,7 @@ pub struct Function {
 }
 
 /// A program: the functions that main may call, numbered from 0, and main.
-#[derive(Drop, Debug)]
+#[derive(Drop)]
 pub struct Program {
     pub functions: Vec<Function>,
     pub main: Function,

@@ -7,4 +7,3 @@ pub mod Fuel
 pub mod Lines
 pub mod Rows
 pub mod Places
-pub mod Samples

@@ -164,13 +164,14 @@ abbrev pub plain_call : World → Calling → (fuel : ℕ) → Function → (arg
 plain_call w call fuel f argument line tape =
     then_do (applied w call fuel f (argument ∷ []) line tape) (left w (frame_of f))
 
--- a task's call, which gives an int to read and write
+-- a task's call, which gives an int to read and write; none goes before others
 abbrev pub task_call_of : (function argument base : ℕ) → dialogue.Call
 task_call_of function argument base = record {
   function = function;
   scalars = [];
   arguments = record { base = argument; element = 4; dimensions = []; is_strided = false; direction = InOut } ∷ [];
   stack_place = base;
+  is_high = false;
 }
 
 -- Behind a task's call, by the world's reply: the body is run, and its return is the task's; or it isn't run, and the call returns at

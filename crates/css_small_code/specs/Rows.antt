@@ -9,7 +9,7 @@ use Rattle.css_base.specs.declared.rule.Rule.TheVariants.{Unsynchronised, Outsid
 use Rattle.css_num.specs.declared.operators.BinOp.TheVariants.{Add}
 use Rattle.css_semantics.specs.Dialogue as dialogue
 use Rattle.css_semantics.specs.Dialogue.{Enter, Leave, Load, Store, Out, Calls, Returns, Tape, item}
-use Rattle.css_semantics.specs.Verdict.{CallIn, Verdict}
+use Rattle.css_semantics.specs.Verdict.{OfBarrier, OfFinish, CallIn, Verdict}
 use Rattle.css_small.specs.declared.tree.Directive.TheVariants.{Start, Finish, Barrier}
 use Rattle.css_small.specs.Tree.{Number, Variable, Element, Binary, Initialise, AssignElement, Call, Mark, Put, Return, Statements, End, More, Function, Program}
 
@@ -62,6 +62,7 @@ call_of_inc = record {
   scalars = [];
   arguments = record { base = 2097144; element = 4; dimensions = []; is_strided = false; direction = InOut } ∷ [];
   stack_place = 2097144;
+  is_high = false;
 }
 
 abbrev pub one_call : List CallIn
@@ -75,7 +76,7 @@ abbrev pub verdict_of_waits : Verdict
 verdict_of_waits = record {
   output = 53 ∷ [];
   calls = one_call;
-  images = record { line = 7; address = 0; bytes = frame_behind } ∷ record { line = 9; address = 0; bytes = frame_behind } ∷ [];
+  images = record { kind = OfBarrier; line = 7; address = 0; bytes = frame_behind } ∷ record { kind = OfFinish; line = 9; address = 0; bytes = frame_behind } ∷ [];
   ending = endings.Result (pos 0);
 }
 

@@ -39,6 +39,3 @@ fn functions_of(alloc: Global, trees: &[css_small::Function]) -> Result<Vec<Func
     }
     Ok(functions)
 }
-
-#[cfg(test)]
-mod tests;

@@ -12,7 +12,7 @@ use std::marker::Model;
 /// Bytes of a local store at a place, which the block owns. Contracts see the place and the bytes.
 ///
 /// The place of a block that is dropped stays out.
-#[derive(Drop, Debug)]
+#[derive(Drop)]
 pub struct Block {
     place: Place,
     bytes: Vec<u8>,

@@ -19,6 +19,3 @@ pub use entry::{ChannelEntry, Step};
 pub use group::Group;
 pub use item::Item;
 pub use staged::Staged;
-
-#[cfg(test)]
-mod tests;

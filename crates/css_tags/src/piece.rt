@@ -7,7 +7,7 @@ ghost use Rattle.css_tags.specs.Groups.{IsWidth};
 const MOST_BYTES: u32 = 16_384;
 
 /// Bytes of a block that are moved together.
-#[derive(Clone, Copy, PartialEq, Eq, Debug)]
+#[derive(Clone, Copy, PartialEq, Eq)]
 pub struct Piece {
     /// The number of the first byte, from 0.
     pub start: u32,

@@ -1,9 +1,9 @@
 pub mod Ends
 pub mod Given
+pub mod OneTask
 pub mod Whole
 pub mod Stored
 pub mod Frames
 pub mod Spaces
-pub mod Rows
 pub mod Quiet
 pub mod Arrivals

@@ -20,7 +20,7 @@ use Rattle.css_semantics.proofs.TaskKept.{kept, place_is, loads_stack, loads_reg
 use Rattle.css_vm.specs.Spaces.{IsRefusal}
 use Rattle.css_vm.proofs.Entries.{drop_next}
 use Rattle.css_task.specs.declared.part.Part.{Part}
-use Rattle.css_task.specs.Parts.{region, IsSpace}
+use Rattle.css_task.specs.KeptMemory.{region, IsSpace}
 use Rattle.css_task.proofs.Frames.{one_more, total_cons}
 use Rattle.css_task.proofs.Stored.{stored_in_stack, stored_in_region}
 

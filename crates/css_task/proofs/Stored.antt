@@ -8,7 +8,7 @@ use Rattle.css_semantics.specs.Alone.{Region, overlaid_region}
 use Rattle.css_semantics.specs.TaskSpaces.{TaskState, place_of, holds, space_after, total, IsClearOf, ArePartedRegions}
 use Rattle.css_semantics.proofs.TaskBytes.{all_at, all_clear, all_out, overlaid_out, stored_region}
 use Rattle.css_semantics.proofs.TaskKept.{kept, place_is}
-use Rattle.css_mem.proofs.Memories.{drop-overlaid, overlaid-shift}
+use Rattle.css_vm.proofs.Bytes.{drop-overlaid, overlaid-shift}
 
 module _ (end start innermost : ℕ) (stack sizes : List ℕ) (regions : List Region) (sum : start + total (drop innermost sizes) ≡ 16384) (long : length stack ≡ 16384) (room : 16384 ≤ end)
     (parted : ArePartedRegions regions) (clear : All (IsClearOf (end - 16384) end) regions) where

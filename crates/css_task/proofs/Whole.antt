@@ -1,5 +1,5 @@
 -- What a machine over the space of a record's task comes to is what the task alone comes to, by the record.
-use Rattle.std.proofs.Common.{◌≡◌, ℕ, List, [], length, map, All, Option, Some, slice_get, refl, ap, sym, subst, ◌∙◌}
+use Rattle.std.proofs.Common.{◌≡◌, ℕ, List, [], length, map, All, Some, slice_get, refl, ap, sym, subst, ◌∙◌}
 use Rattle.std.proofs.Math.Nat.{sub-zero}
 use Rattle.std.proofs.lemmas.List.{length-map}
 use Rattle.css_base.specs.declared.limits.Limits.{Limits}
@@ -25,11 +25,9 @@ use Rattle.css_task.specs.Arrivals.{Arrives}
 use Rattle.css_task.specs.Quiet.{IsQuietState}
 use Rattle.css_task.specs.Alone.{TaskOf, IsPlainTask, InputsOf, IsAlone, ComesTo, Halted, Outs}
 use Rattle.css_task.specs.Regions.{regions_by, AreParted}
+use Rattle.css_task.proofs.OneTask.{some_same, one_shape}
 use Rattle.css_task.proofs.Ends.{stopped, ended_stopped, ended_outs}
 use Rattle.css_task.proofs.Given.{uses_windows, uses_are_windows, length-arguments, all_rows, all_both, lengths_of, uses_apart, regions_are, rows_are, all_clear_of_stack, stands_at_entry}
-
-some_same : {A : Type 0} (o : Option A) (f g : A) → o ≡ Some f → o ≡ Some g → f ≡ g
-some_same o f g is is' = cc
 
 -- the space of these regions before the entry
 abbrev pub begun_with : List Region → (place : ℕ) → TaskState
@@ -81,9 +79,7 @@ module _ (code : Code) (r : TaskRecord) (inputs : List (List ℕ)) (fits : FitsC
   same_routine f named = some_same (slice_get code.functions r.function) fits.routine f fits.function named
 
   pub same_shape : (f : Routine) (s : Shape) → TaskOf code r f s → fits.shape ≡ s
-  same_shape f s named =
-      let same = same_routine f named.function in
-      some_same f.task fits.shape s (ap (λ (g : Routine). g.task) (sym same) ∙ fits.task) named.task
+  same_shape f s named = one_shape code r fits.routine f fits.shape s fitting named
 
   -- ---- how the run begins
 
@@ -119,29 +115,41 @@ module _ (code : Code) (r : TaskRecord) (inputs : List (List ℕ)) (fits : FitsC
 
   -- a stop of the machine is the task's
   pub stopped_alone : (units : ℕ) (new : State) (space' : Metered TaskState) (stop : Stop) (at : ℕ) → Comes units (events.Stopped stop at) new space' → IsAlone code r inputs units (Halted stop at)
-  stopped_alone units new space' stop at arrives = λ f s limits named is.
-      let begun = subst (λ m. Arrives code old m (events.Stopped stop at) new space') (sym (entry_is limits units is)) arrives in
-      subst (λ s. ComesTo code r s inputs limits (Halted stop at)) (same_shape f s named)
-      (stopped code limits us inputs r.stack_place r.function r.line (arguments fits.shape r) (all_both us rows) stands new space' stop at begun)
+  stopped_alone units new space' stop at arrives = record {
+    routine = fits.routine;
+    shape = fits.shape;
+    task = fitting;
+    comes = λ limits is.
+        let begun = subst (λ m. Arrives code old m (events.Stopped stop at) new space') (sym (entry_is limits units is)) arrives in
+        stopped code limits us inputs r.stack_place r.function r.line (arguments fits.shape r) (all_both us rows) stands new space' stop at begun;
+  }
 
   module _ (units : ℕ) (new : State) (space' : TaskState) (units' cell at : ℕ) (arrives : Comes units (events.Ended cell at) new (with_units space' units')) (inside : IsInside new) (stacked : IsStacked code (place_of space') new) where
     -- and so is a frame that can't be left
     pub left_stopped : (stop : Stop) → IsRefusal (space_reply space' (Leave (place_of space') fits.routine.frame)) stop → IsAlone code r inputs units (Halted stop at)
-    left_stopped stop refusal = λ f s limits named is.
-        let begun = subst (λ m. Arrives code old m (events.Ended cell at) new (with_units space' units')) (sym (entry_is limits units is)) arrives in
-        let refusal' = subst (λ n. IsRefusal (space_reply space' (Leave (place_of space') n)) stop) (sym (ap frame_of fits.function)) refusal in
-        subst (λ s. ComesTo code r s inputs limits (Halted stop at)) (same_shape f s named)
-        (ended_stopped code limits us inputs r.stack_place r.function r.line (arguments fits.shape r) (all_both us rows) stands new space' units' cell at begun inside stacked stop refusal')
+    left_stopped stop refusal = record {
+      routine = fits.routine;
+      shape = fits.shape;
+      task = fitting;
+      comes = λ limits is.
+          let begun = subst (λ m. Arrives code old m (events.Ended cell at) new (with_units space' units')) (sym (entry_is limits units is)) arrives in
+          let refusal' = subst (λ n. IsRefusal (space_reply space' (Leave (place_of space') n)) stop) (sym (ap frame_of fits.function)) refusal in
+          ended_stopped code limits us inputs r.stack_place r.function r.line (arguments fits.shape r) (all_both us rows) stands new space' units' cell at begun inside stacked stop refusal';
+    }
 
     -- where it is left, the regions have the task's outs
     pub left_outs : (n : ℕ) → space_reply space' (Leave (place_of space') fits.routine.frame) ≡ Says n
         → (m : TaskMemory) → (space_after space' (Leave (place_of space') fits.routine.frame)).memory ≡ m → ArePartedRegions m.regions → All (IsClearOf (task_place m) m.place) m.regions
         → IsAlone code r inputs units (Outs (map (λ r. r.bytes) m.regions))
-    left_outs n says m is_memory parted clear = λ f s limits named is.
-        let begun = subst (λ m. Arrives code old m (events.Ended cell at) new (with_units space' units')) (sym (entry_is limits units is)) arrives in
-        let frame : frame_of (slice_get code.functions r.function) ≡ fits.routine.frame = ap frame_of fits.function in
-        let says' = ap (λ n. space_reply space' (Leave (place_of space') n)) frame ∙ says in
-        let memory' = ap (λ n. (space_after space' (Leave (place_of space') n)).memory) frame ∙ is_memory in
-        let same = ap (map row_of) (given_is us inputs rows lengths) ∙ rows_are us inputs rows lengths in
-        subst (λ s. ComesTo code r s inputs limits (Outs (map (λ r. r.bytes) m.regions))) (same_shape f s named)
-        (ended_outs code limits us inputs r.stack_place r.function r.line (arguments fits.shape r) (all_both us rows) stands new space' units' cell at begun inside stacked n says' m memory' rows same parted clear)
+    left_outs n says m is_memory parted clear = record {
+      routine = fits.routine;
+      shape = fits.shape;
+      task = fitting;
+      comes = λ limits is.
+          let begun = subst (λ m. Arrives code old m (events.Ended cell at) new (with_units space' units')) (sym (entry_is limits units is)) arrives in
+          let frame : frame_of (slice_get code.functions r.function) ≡ fits.routine.frame = ap frame_of fits.function in
+          let says' = ap (λ n. space_reply space' (Leave (place_of space') n)) frame ∙ says in
+          let memory' = ap (λ n. (space_after space' (Leave (place_of space') n)).memory) frame ∙ is_memory in
+          let same = ap (map row_of) (given_is us inputs rows lengths) ∙ rows_are us inputs rows lengths in
+          ended_outs code limits us inputs r.stack_place r.function r.line (arguments fits.shape r) (all_both us rows) stands new space' units' cell at begun inside stacked n says' m memory' rows same parted clear;
+    }

@@ -43,7 +43,9 @@ ComesTo code r s inputs limits (Halted stop line) =
     (n : ℕ) × (tape : Tape)
     × (alone (alone_world limits (uses s r) inputs r.stack_place) code r.function (arguments s r) r.line n ≡ Stops (Stopped stop line) tape)
 
--- The task alone comes to this end: of the limits only the task's units matter.
-abbrev pub IsAlone : Code → TaskRecord → (inputs : List (List ℕ)) → (units : ℕ) → End → Type 0
-IsAlone code r inputs units end =
-    (f : Routine) (s : Shape) (limits : Limits) → TaskOf code r f s → limits.task_units ≡ units → ComesTo code r s inputs limits end
+-- The record is of a task, which alone comes to this end: of the limits only the task's units matter.
+pub record IsAlone (code : Code) (r : TaskRecord) (inputs : List (List ℕ)) (units : ℕ) (end : End) : Type 0 where
+  pub routine : Routine
+  pub shape : Shape
+  pub task : TaskOf code r routine shape
+  pub comes : (limits : Limits) → limits.task_units ≡ units → ComesTo code r shape inputs limits end

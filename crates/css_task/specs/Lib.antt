@@ -1,6 +1,5 @@
 pub mod Alone
 pub mod Regions
-pub mod Parts
-pub mod Rows
+pub mod KeptMemory
 pub mod Quiet
 pub mod Arrivals

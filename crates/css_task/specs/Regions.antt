@@ -7,7 +7,8 @@ use Rattle.css_semantics.specs.TaskSpaces.{IsClearOf, ArePartedRegions}
 -- the windows with their bytes
 abbrev pub regions_by : List Window → (inputs : List (List ℕ)) → List Region
 regions_by (w ∷ windows) (bytes ∷ inputs) = record { base = w.base; bytes = bytes } ∷ regions_by windows inputs
-regions_by _ _ = []
+regions_by [] inputs = []
+regions_by (w ∷ windows) [] = []
 
 -- regions share no byte, and none with the 16,384 below a stack place
 abbrev pub AreParted : (place : ℕ) → List Region → Type 0

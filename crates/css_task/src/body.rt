@@ -1,5 +1,5 @@
 //! The run of a task's body.
-ghost use Rattle.std.specs.Prelude.{IfOk};
+ghost use Rattle.std.specs.Prelude.{◌≡◌, IfOk};
 ghost use Rattle.css_semantics.specs.Units.{with_units};
 ghost use Rattle.css_semantics.specs.TaskSpaces.{place_of};
 ghost use Rattle.css_vm.specs.Code.{code_of};
@@ -10,7 +10,7 @@ ghost use Rattle.css_task.specs.Arrivals.{EndsBody};
 
 use crate::task_space::TaskSpace;
 use css_base::{Line, NoMemory, Stop};
-use css_vm::{Code, Event, Machine};
+use css_vm::{Code, Due, Event, Machine};
 use std::alloc::Global;
 
 /// How a task's body ends.
@@ -31,10 +31,11 @@ pub(crate) fn run_body(
     space: &mut TaskSpace,
     units: &mut u64,
 ) -> Result<BodyEnd, NoMemory>
-    requires fits { Fits (code_of code.now) machine.old }
-    requires stacked { IsStacked (code_of code.now) (place_of space.old) machine.old }
-    requires quiet { IsQuietState (code_of code.now) machine.old }
-    ensures { IfOk result (λ end. EndsBody (code_of code.now) machine.old (with_units space.old units.old) end machine.new (with_units space.new units.new)) }
+    requires due { machine.old.due ≡ Due.Run }
+    requires fits { Fits (code_of code.now) machine.old.state }
+    requires stacked { IsStacked (code_of code.now) (place_of space.old) machine.old.state }
+    requires quiet { IsQuietState (code_of code.now) machine.old.state }
+    ensures { IfOk result (λ end. EndsBody (code_of code.now) machine.old.state (with_units space.old units.old) end machine.new.state (with_units space.new units.new)) }
 {
     for _ in 0..u64::MAX {
         let event = machine.run_to_event(alloc, code, space, units)?;

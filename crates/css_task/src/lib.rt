@@ -6,7 +6,5 @@ mod body;
 mod part;
 mod shared;
 mod task_space;
-#[cfg(test)]
-mod tests;
 
 pub use shared::{SharedEnd, run_shared};

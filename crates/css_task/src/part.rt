@@ -3,15 +3,14 @@ ghost use Rattle.std.specs.Prelude.{◌≡◌, ◌-◌, ◌≤◌, true, take, d
 ghost use Rattle.css_semantics.specs.Memory.{big_endian, big_endian_bytes, overlaid};
 ghost use Rattle.css_semantics.specs.TaskSpaces.{holds};
 ghost use Rattle.css_vm.specs.Spaces.{bytes_of};
-ghost use Rattle.css_task.specs.Parts.{region};
+ghost use Rattle.css_task.specs.KeptMemory.{region};
 
 use css_base::{Buffer, NoMemory};
-use css_mem::{byte_count, number_of, write_number};
-use css_vm::Width;
+use css_vm::{Width, byte_count, number_of, write_number};
 use std::alloc::Global;
 
 /// The bytes of a window that is one row.
-#[derive(Drop, Debug)]
+#[derive(Drop)]
 pub(crate) struct Part {
     pub(crate) base: u32,
     pub(crate) bytes: Vec<u8>,

@@ -14,7 +14,7 @@ use css_vm::{Code, Function, Machine, Space, TaskShape};
 use std::alloc::Global;
 
 /// How a task's run ends.
-#[derive(Drop, Debug)]
+#[derive(Drop)]
 pub enum SharedEnd {
     /// What its writing parameters have at the end, in order of parameters.
     Outs(Vec<Buffer>),

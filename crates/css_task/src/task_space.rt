@@ -5,14 +5,13 @@ ghost use Rattle.css_semantics.specs.Rules.{is_in_frame};
 ghost use Rattle.css_semantics.specs.Alone.{Region};
 ghost use Rattle.css_semantics.specs.TaskSpaces.{holds, place_of, total};
 ghost use Rattle.css_record.specs.Windows.{window};
-ghost use Rattle.css_task.specs.Parts.{region};
+ghost use Rattle.css_task.specs.KeptMemory.{region};
 ghost use Rattle.css_task.specs.Regions.{regions_by, AreParted};
 
 use crate::part::{Part, buffers_of};
 use css_base::{Buffer, FaultKind, NoMemory, Rule, Stop};
-use css_mem::{byte_count, number_of, write_number};
 use css_record::Window;
-use css_vm::{Space, Width};
+use css_vm::{Space, Width, byte_count, number_of, write_number};
 use std::alloc::Global;
 use std::marker::Model;
 
@@ -23,7 +22,7 @@ const STACK_BYTES: usize = 16_384;
 const OPEN_CALLS: usize = 1_024;
 
 /// A task's memory: the bytes of its windows, which are read and written, and its stack. Contracts see its bytes and its frames.
-#[derive(Drop, Debug)]
+#[derive(Drop)]
 pub(crate) struct TaskSpace {
     parts: Vec<Part>,
     // All bytes that the stack may have, which end at this address, and the index from which on they are live.
@@ -38,7 +37,7 @@ pub(crate) struct TaskSpace {
 impl Model for TaskSpace {
     ghost use Rattle.std.specs.Prelude.{drop, map};
     ghost use Rattle.css_semantics.specs.TaskSpaces.{TaskState};
-    ghost use Rattle.css_task.specs.Parts.{region, IsSpace};
+    ghost use Rattle.css_task.specs.KeptMemory.{region, IsSpace};
 
     ghost Value = { TaskState };
 

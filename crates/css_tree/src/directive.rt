@@ -4,14 +4,14 @@ use crate::expression::Expression;
 use css_base::{Bytes, Direction, Line, Tokens};
 
 /// A directive that isn't read yet: its line, and the words after `#pragma css`.
-#[derive(Drop, Debug)]
+#[derive(Drop)]
 pub struct Mark {
     pub line: Line,
     pub words: Tokens,
 }
 
 /// A directive that was read, with its line.
-#[derive(Drop, Debug)]
+#[derive(Drop)]
 pub enum Directive {
     Start {
         line: Line,
@@ -34,7 +34,7 @@ pub enum Directive {
 }
 
 /// A part of a task's directive.
-#[derive(Drop, Debug)]
+#[derive(Drop)]
 pub enum Clause {
     /// `input(..)`, `output(..)` or `inout(..)`
     Arguments {
@@ -46,7 +46,7 @@ pub enum Clause {
 }
 
 /// A parameter that a clause names.
-#[derive(Drop, Debug)]
+#[derive(Drop)]
 pub enum Argument {
     /// `name { [ dimension ] }`
     Plain {

@@ -8,13 +8,13 @@ use crate::words::{Specifier, Star};
 use css_base::{Bytes, Line};
 
 /// A program.
-#[derive(Drop, Debug)]
+#[derive(Drop)]
 pub struct Tree {
     pub items: Vec<Item>,
 }
 
 /// A function, or a declaration of objects.
-#[derive(Drop, Debug)]
+#[derive(Drop)]
 pub enum Item {
     /// A definition or, without a body, a prototype. The line is that of its first word, also behind a directive; the end is the
     /// line of its last token, which is a definition's closing brace.
@@ -32,7 +32,7 @@ pub enum Item {
 }
 
 /// What stands between a function's parentheses.
-#[derive(Drop, Debug)]
+#[derive(Drop)]
 pub enum Parameters {
     /// Nothing.
     Empty,
@@ -42,7 +42,7 @@ pub enum Parameters {
 }
 
 /// `specs stars name { [ size ] }`. The name may be left out, and so may a size.
-#[derive(Drop, Debug)]
+#[derive(Drop)]
 pub struct Parameter {
     pub line: Line,
     pub specifiers: Vec<Specifier>,

@@ -1,12 +1,10 @@
 //! The tree of a program.
 #![tactic(auto)]
 
-mod copies;
 mod declaration;
 mod directive;
 mod expression;
 mod item;
-mod marks;
 mod operators;
 mod scope;
 mod statement;
@@ -16,11 +14,7 @@ pub use declaration::{Declaration, Declarator, Initialiser};
 pub use directive::{Argument, Clause, Directive, Mark};
 pub use expression::Expression;
 pub use item::{Item, Parameter, Parameters, Tree};
-pub use marks::unmark;
 pub use operators::{AssignOperator, BinaryOperator, UnaryOperator};
 pub use scope::Scope;
 pub use statement::{Block, Entry, ForStart, Statement};
 pub use words::{Qualifier, Specifier, Star, TypeName};
-
-#[cfg(test)]
-mod tests;

@@ -7,7 +7,7 @@ use css_base::Line;
 
 /// `{ .. }`
 #[cycle(statements)]
-#[derive(Drop, Debug)]
+#[derive(Drop)]
 pub struct Block {
     pub line: Line,
     pub entries: Vec<Entry>,
@@ -15,7 +15,7 @@ pub struct Block {
 
 /// What stands in a block.
 #[cycle(statements)]
-#[derive(Drop, Debug)]
+#[derive(Drop)]
 pub enum Entry {
     Declaration(Declaration),
     Directive(Mark),
@@ -23,7 +23,7 @@ pub enum Entry {
 }
 
 /// What stands first in the head of a `for`.
-#[derive(Drop, Debug)]
+#[derive(Drop)]
 pub enum ForStart {
     Declaration(Declaration),
     Expression(Option<Expression>),
@@ -31,7 +31,6 @@ pub enum ForStart {
 
 /// A statement (C99 6.8), with the line of its first token. An `else` belongs to the nearest `if`.
 #[cycle(statements)]
-#[derive(Drop, Debug)]
 pub enum Statement {
     Block(Block),
     /// `value;`
@@ -79,4 +78,41 @@ pub enum Statement {
         line: Line,
         value: Option<Expression>,
     },
+}
+
+// By hand, so that a place that lets a statement go is one call in its proof.
+impl Drop for Statement {
+    #[cycle(statements)]
+    fn drop(self) {
+        match self {
+            Statement::Block(_) => {}
+            Statement::Expression { line: _, value: _ } => {}
+            Statement::If {
+                line: _,
+                condition: _,
+                first: _,
+                second: _,
+            } => {}
+            Statement::While {
+                line: _,
+                condition: _,
+                body: _,
+            } => {}
+            Statement::Do {
+                line: _,
+                body: _,
+                condition: _,
+            } => {}
+            Statement::For {
+                line: _,
+                start: _,
+                condition: _,
+                step: _,
+                body: _,
+            } => {}
+            Statement::Break { line: _ } => {}
+            Statement::Continue { line: _ } => {}
+            Statement::Return { line: _, value: _ } => {}
+        }
+    }
 }

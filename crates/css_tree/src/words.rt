@@ -29,13 +29,13 @@ pub enum Qualifier {
 }
 
 /// A star of a pointer's type, with the words behind it.
-#[derive(Drop, Debug)]
+#[derive(Drop)]
 pub struct Star {
     pub qualifiers: Vec<Qualifier>,
 }
 
 /// A type without a name: `specs stars`.
-#[derive(Drop, Debug)]
+#[derive(Drop)]
 pub struct TypeName {
     pub specifiers: Vec<Specifier>,
     pub stars: Vec<Star>,

@@ -2,14 +2,14 @@
 ghost use Rattle.std.specs.Prelude.{◌≡◌, ℕ, List};
 ghost use Rattle.css_base.specs.Tokens.{Lexeme};
 ghost use Rattle.css_lex.specs.Lexing.{SpellsTokens};
-ghost use Rattle.css_lex.specs.Lines.{erased};
+ghost use Rattle.css_lexemes.specs.Lines.{erased};
 ghost use Rattle.css_lex.specs.WithoutDirectives.{kinds_and_lines, without_directives, HasPartedStrings};
 ghost use Rattle.css_tree.specs.Syntax.{Tree};
 ghost use Rattle.css_tree.specs.Items.{SpellsProgram};
 ghost use Rattle.css_tree.specs.Marks.{unmarked};
 ghost use Rattle.css_parse.specs.Refusals.{IsAccepted};
 
-use css_lex::erasing_takes_directives_alone;
+use css_erased_text::erasing_takes_directives_alone;
 
 /// Where tokens are accepted with a tree, those of them that aren't directives are accepted with the tree without its marks.
 pub fn others_spell_the_unmarked()

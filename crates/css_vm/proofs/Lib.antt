@@ -3,5 +3,8 @@ pub mod Requests
 pub mod Stacks
 pub mod Steps
 pub mod Runs
+pub mod TakenAnswers
 pub mod Entries
 pub mod Pauses
+pub mod Bytes
+pub mod Checked

@@ -51,7 +51,7 @@ narrowed_length (width ∷ parameters) (a ∷ arguments) same = ap suc (narrowed
 
 same_call : (k : ℕ) (g : Routine) (shape : Shape) (arguments dimensions : List ℕ) (base : ℕ) → call_of k g shape (narrowed_to g.parameters arguments) dimensions base ≡ call_of k g shape arguments dimensions base
 same_call k g shape arguments dimensions base =
-    ap (λ values. let call : Call = record { function = k; scalars = scalars_of shape.arguments values; arguments = pointers_of shape.arguments values dimensions; stack_place = base } in call)
+    ap (λ values. let call : Call = record { function = k; scalars = scalars_of shape.arguments values; arguments = pointers_of shape.arguments values dimensions; stack_place = base; is_high = shape.high } in call)
     (narrowed_twice g.parameters arguments)
 
 -- what goes on alike behind an outcome

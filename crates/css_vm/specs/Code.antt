@@ -59,7 +59,8 @@ all_dimensions (s ∷ shapes) = dimensions_of s + all_dimensions shapes
 abbrev pub scalars_of : List ArgShape → (arguments : List ℕ) → List ℕ
 scalars_of (shapes.Scalar ∷ shapes) (a ∷ arguments) = a ∷ scalars_of shapes arguments
 scalars_of (shapes.Window direction element dims strided ∷ shapes) (a ∷ arguments) = scalars_of shapes arguments
-scalars_of _ _ = []
+scalars_of [] arguments = []
+scalars_of (s ∷ shapes) [] = []
 
 -- the pointers among them, each with its dimensions
 abbrev pub pointers_of : List ArgShape → (arguments dimensions : List ℕ) → List Argument
@@ -67,12 +68,14 @@ pointers_of (shapes.Scalar ∷ shapes) (a ∷ arguments) dimensions = pointers_o
 pointers_of (shapes.Window direction element dims strided ∷ shapes) (a ∷ arguments) dimensions =
     record { base = a; element = element; dimensions = map signed (take dims dimensions); is_strided = strided; direction = direction }
     ∷ pointers_of shapes arguments (drop dims dimensions)
-pointers_of _ _ _ = []
+pointers_of [] arguments dimensions = []
+pointers_of (s ∷ shapes) [] dimensions = []
 
 -- the low bytes of each argument, as many as its parameter has
 abbrev pub narrowed_to : (parameters arguments : List ℕ) → List ℕ
 narrowed_to (width ∷ parameters) (a ∷ arguments) = a % 2 ^ (8 * width) ∷ narrowed_to parameters arguments
-narrowed_to _ _ = []
+narrowed_to [] arguments = []
+narrowed_to (width ∷ parameters) [] = []
 
 -- a call of a task, with its arguments and dimensions, where main's stack place is this
 abbrev pub call_of : (function : ℕ) → Routine → Shape → (arguments dimensions : List ℕ) → (stack_place : ℕ) → Call
@@ -83,4 +86,5 @@ call_of function f s arguments dimensions stack_place =
       scalars = scalars_of s.arguments values;
       arguments = pointers_of s.arguments values dimensions;
       stack_place = stack_place;
+      is_high = s.high;
     }

@@ -7,38 +7,65 @@ use Rattle.css_vm.specs.declared.code.Op.TheVariants as ops
 use Rattle.css_vm.specs.declared.code.Narrow.{Narrow}
 use Rattle.css_vm.specs.declared.code.Narrow.TheVariants as narrows
 use Rattle.css_vm.specs.Code.{Code}
+use Rattle.css_vm.specs.Roles.{Role, Pushing, Computing, Dividing, Accessing, Jumping, Branching, Calling, Submitting, Marking, Turning, Writing, Returning, role_of}
 use Rattle.css_vm.specs.Machine.{Caller, effect, next}
 use Rattle.css_vm.specs.Soundness.{takes, gives}
 use Rattle.css_vm.specs.Events.{Along, StopsAt}
 use Rattle.css_vm.specs.Stacks.{running}
 
 -- the instructions that leave the next place to themselves
+abbrev pub leads_next : Role → Bool
+leads_next (Pushing below) = true
+leads_next (Computing taken given) = true
+leads_next Dividing = true
+leads_next (Accessing taken) = true
+leads_next (Jumping to) = false
+leads_next (Branching to) = false
+leads_next (Calling k) = false
+leads_next (Submitting k) = false
+leads_next (Marking kind) = false
+leads_next Turning = false
+leads_next Writing = false
+leads_next Returning = false
+
 abbrev pub goes_on : Op → Bool
-goes_on (ops.Jump to) = false
-goes_on (ops.Jumpz to) = false
-goes_on (ops.Call k) = false
-goes_on (ops.Submit k) = false
-goes_on (ops.Mark kind) = false
-goes_on ops.Turn = false
-goes_on (ops.Out c) = false
-goes_on ops.Ret = false
-goes_on _ = true
+goes_on op = leads_next (role_of op)
 
 -- the instructions that only change the stack
+abbrev pub changes_stack : Role → Bool
+changes_stack (Pushing below) = true
+changes_stack (Computing taken given) = true
+changes_stack Dividing = false
+changes_stack (Accessing taken) = false
+changes_stack (Jumping to) = false
+changes_stack (Branching to) = false
+changes_stack (Calling k) = false
+changes_stack (Submitting k) = false
+changes_stack (Marking kind) = false
+changes_stack Turning = false
+changes_stack Writing = false
+changes_stack Returning = false
+
 abbrev pub is_silent : Op → Bool
-is_silent ops.Load32u = false
-is_silent ops.Load32s = false
-is_silent ops.Store32 = false
-is_silent ops.Divs = false
-is_silent ops.Rems = false
-is_silent op = goes_on op
+is_silent op = changes_stack (role_of op)
 
 -- those of them that need no more room
+abbrev pub computes : Role → Bool
+computes (Pushing below) = false
+computes (Computing taken given) = true
+computes Dividing = false
+computes (Accessing taken) = false
+computes (Jumping to) = false
+computes (Branching to) = false
+computes (Calling k) = false
+computes (Submitting k) = false
+computes (Marking kind) = false
+computes Turning = false
+computes Writing = false
+computes Returning = false
+
 abbrev pub needs_no_room : Op → Bool
-needs_no_room (ops.Push v) = false
-needs_no_room (ops.Dup n) = false
-needs_no_room (ops.Frame k) = false
-needs_no_room op = is_silent op
+needs_no_room op = computes (role_of op)
 
 -- how a load narrows what it loads
 abbrev pub Narrows : Op → Narrow → Type 0

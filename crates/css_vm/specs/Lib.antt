@@ -1,9 +1,11 @@
 pub mod Code
 pub mod Cells
+pub mod Roles
 pub mod Machine
 pub mod Soundness
 pub mod Spaces
 pub mod Events
+pub mod Due
 pub mod Stacks
 pub mod Effects
 pub mod States

@@ -86,7 +86,8 @@ given_back false cell = cell
 abbrev pub stores : World → (address : ℕ) → (parameters arguments : List ℕ) → ℕ → Tape → Outcome ℕ
 stores w address (width ∷ parameters) (a ∷ arguments) line tape =
     then_do (ask w (Store (address % 2 ^ 32) (big_endian_bytes width a)) line tape) (λ r t. stores w (address + 8) parameters arguments line t)
-stores w address _ _ line tape = Goes 0 tape
+stores w address [] arguments line tape = Goes 0 tape
+stores w address (width ∷ parameters) [] line tape = Goes 0 tape
 
 -- enters a function with its arguments, and gives its frame's base
 abbrev pub entered : World → Routine → List ℕ → ℕ → Tape → Outcome ℕ

@@ -6,8 +6,10 @@ use Rattle.css_vm.specs.declared.code.ArgShape.TheVariants as shapes
 use Rattle.css_vm.specs.declared.code.Instr.{Instr}
 use Rattle.css_vm.specs.declared.code.Op.{Op}
 use Rattle.css_vm.specs.declared.code.Op.TheVariants as ops
+use Rattle.css_vm.specs.declared.code.MarkKind.{MarkKind}
 use Rattle.css_vm.specs.declared.code.MarkKind.TheVariants as marks
 use Rattle.css_vm.specs.Code.{Routine, Shape, Code, all_dimensions}
+use Rattle.css_vm.specs.Roles.{Role, Pushing, Computing, Dividing, Accessing, Jumping, Branching, Calling, Submitting, Marking, Turning, Writing, Returning, role_of}
 use Rattle.css_vm.specs.Machine.{State, Begin, At, Caller}
 
 -- the cells on the stack at a place, and how many steps are left at most up to a turn, a call or the end
@@ -39,57 +41,99 @@ dimensions_taken None = 0
 dimensions_taken (Some f) = dimensions_of_task f.task
 
 module _ (code : Code) where
-  -- `dup` takes none, but the cell that it copies has to be there
+  abbrev pub cells_taken : Role → ℕ
+  cells_taken (Pushing below) = 0
+  cells_taken (Computing taken given) = taken
+  cells_taken Dividing = 2
+  cells_taken (Accessing taken) = taken
+  cells_taken (Jumping to) = 0
+  cells_taken (Branching to) = 1
+  cells_taken (Calling k) = arguments_taken (slice_get code.functions k)
+  cells_taken (Submitting k) = arguments_taken (slice_get code.functions k) + dimensions_taken (slice_get code.functions k)
+  cells_taken (Marking kind) = 0
+  cells_taken Turning = 0
+  cells_taken Writing = 1
+  cells_taken Returning = 1
+
   abbrev pub takes : Op → ℕ
-  takes (ops.Push v) = 0
-  takes (ops.Dup n) = 0
-  takes (ops.Frame k) = 0
-  takes (ops.Jump to) = 0
-  takes (ops.Mark kind) = 0
-  takes ops.Turn = 0
-  takes ops.Drop = 1
-  takes ops.Load32u = 1
-  takes ops.Load32s = 1
-  takes ops.Neg = 1
-  takes ops.Not = 1
-  takes (ops.Conv t) = 1
-  takes (ops.Jumpz to) = 1
-  takes (ops.Out c) = 1
-  takes ops.Ret = 1
-  takes (ops.Call k) = arguments_taken (slice_get code.functions k)
-  takes (ops.Submit k) = arguments_taken (slice_get code.functions k) + dimensions_taken (slice_get code.functions k)
-  takes _ = 2
+  takes op = cells_taken (role_of op)
+
+  abbrev pub given_at : MarkKind → ℕ
+  given_at marks.Start = 0
+  given_at marks.Finish = 0
+  given_at marks.Barrier = 0
+  given_at marks.Started = 1
+
+  abbrev pub cells_given : Role → ℕ
+  cells_given (Pushing below) = 1
+  cells_given (Computing taken given) = given
+  cells_given Dividing = 1
+  cells_given (Accessing taken) = 1
+  cells_given (Jumping to) = 0
+  cells_given (Branching to) = 0
+  cells_given (Calling k) = 1
+  cells_given (Submitting k) = 1
+  cells_given (Marking kind) = given_at kind
+  cells_given Turning = 0
+  cells_given Writing = 1
+  cells_given Returning = 0
 
   abbrev pub gives : Op → ℕ
-  gives ops.Drop = 0
-  gives (ops.Jump to) = 0
-  gives (ops.Jumpz to) = 0
-  gives ops.Turn = 0
-  gives ops.Ret = 0
-  gives (ops.Mark marks.Start) = 0
-  gives (ops.Mark marks.Finish) = 0
-  gives (ops.Mark marks.Barrier) = 0
-  gives ops.Swap = 2
-  gives _ = 1
+  gives op = cells_given (role_of op)
+
+  -- what pushes takes none, but those that it asks for have to be there
+  abbrev pub cells_needed : Role → ℕ
+  cells_needed (Pushing below) = below
+  cells_needed (Computing taken given) = taken
+  cells_needed Dividing = 2
+  cells_needed (Accessing taken) = taken
+  cells_needed (Jumping to) = 0
+  cells_needed (Branching to) = 1
+  cells_needed (Calling k) = arguments_taken (slice_get code.functions k)
+  cells_needed (Submitting k) = arguments_taken (slice_get code.functions k) + dimensions_taken (slice_get code.functions k)
+  cells_needed (Marking kind) = 0
+  cells_needed Turning = 0
+  cells_needed Writing = 1
+  cells_needed Returning = 1
 
   abbrev pub needs : Op → ℕ
-  needs (ops.Dup n) = n + 1
-  needs op = takes op
+  needs op = cells_needed (role_of op)
 
   -- the functions that an instruction names are there, and are tasks where they have to be
+  abbrev pub AreNamed : Role → Type 0
+  AreNamed (Pushing below) = Unit {0}
+  AreNamed (Computing taken given) = Unit {0}
+  AreNamed Dividing = Unit {0}
+  AreNamed (Accessing taken) = Unit {0}
+  AreNamed (Jumping to) = Unit {0}
+  AreNamed (Branching to) = Unit {0}
+  AreNamed (Calling k) = (f : Routine) × (slice_get code.functions k ≡ Some f)
+  AreNamed (Submitting k) = (f : Routine) × (s : Shape) × (slice_get code.functions k ≡ Some f) × (f.task ≡ Some s)
+  AreNamed (Marking kind) = Unit {0}
+  AreNamed Turning = Unit {0}
+  AreNamed Writing = Unit {0}
+  AreNamed Returning = Unit {0}
+
   abbrev pub Names : Op → Type 0
-  Names (ops.Call k) = (f : Routine) × (slice_get code.functions k ≡ Some f)
-  Names (ops.Submit k) = (f : Routine) × (s : Shape) × (slice_get code.functions k ≡ Some f) × (f.task ≡ Some s)
-  Names op = Unit {0}
+  Names op = AreNamed (role_of op)
 
   -- an instruction's places to go have the height that it leaves
+  abbrev pub LeadsOn : List Spot → ℕ → Spot → Role → Type 0
+  LeadsOn plan place spot (Pushing below) = Leads plan (place + 1) spot (spot.height - 0 + 1)
+  LeadsOn plan place spot (Computing taken given) = Leads plan (place + 1) spot (spot.height - taken + given)
+  LeadsOn plan place spot Dividing = Leads plan (place + 1) spot (spot.height - 2 + 1)
+  LeadsOn plan place spot (Accessing taken) = Leads plan (place + 1) spot (spot.height - taken + 1)
+  LeadsOn plan place spot (Jumping to) = Leads plan to spot spot.height
+  LeadsOn plan place spot (Branching to) = Leads plan to spot (spot.height - 1) × Leads plan (place + 1) spot (spot.height - 1)
+  LeadsOn plan place spot (Calling k) = Stays plan (place + 1) (spot.height - arguments_taken (slice_get code.functions k) + 1)
+  LeadsOn plan place spot (Submitting k) = Leads plan (place + 1) spot (spot.height - (arguments_taken (slice_get code.functions k) + dimensions_taken (slice_get code.functions k)) + 1)
+  LeadsOn plan place spot (Marking kind) = Leads plan (place + 1) spot (spot.height - 0 + given_at kind)
+  LeadsOn plan place spot Turning = Stays plan (place + 1) spot.height
+  LeadsOn plan place spot Writing = Leads plan (place + 1) spot (spot.height - 1 + 1)
+  LeadsOn plan place spot Returning = Unit {0}
+
   abbrev pub GoesOn : List Spot → ℕ → Spot → Op → Type 0
-  GoesOn plan place spot ops.Ret = Unit {0}
-  GoesOn plan place spot (ops.Jump to) = Leads plan to spot spot.height
-  GoesOn plan place spot (ops.Jumpz to) = Leads plan to spot (spot.height - 1) × Leads plan (place + 1) spot (spot.height - 1)
-  GoesOn plan place spot ops.Turn = Stays plan (place + 1) spot.height
-  GoesOn plan place spot (ops.Call k) = Stays plan (place + 1) (spot.height - takes (ops.Call k) + 1)
-  GoesOn plan place spot op = Leads plan (place + 1) spot (spot.height - takes op + gives op)
+  GoesOn plan place spot op = LeadsOn plan place spot (role_of op)
 
   -- an instruction finds its cells and functions, and leads on as the plan says
   pub record IsFine (plan : List Spot) (place : ℕ) (spot : Spot) (op : Op) : Type 0 where
@@ -113,8 +157,9 @@ module _ (code : Code) where
 
   abbrev pub AreParts : List ArgShape → (parameters : List ℕ) → Type 0
   AreParts [] [] = Unit {0}
+  AreParts [] (width ∷ parameters) = ⊥
+  AreParts (s ∷ shapes) [] = ⊥
   AreParts (s ∷ shapes) (width ∷ parameters) = IsPart s width × AreParts shapes parameters
-  AreParts _ _ = ⊥
 
   abbrev pub IsShapeOf : Shape → Routine → Type 0
   IsShapeOf s f = (length f.parameters ≤ 32) × AreParts s.arguments f.parameters
@@ -126,11 +171,22 @@ module _ (code : Code) where
         → Contains f.body i → i.op ≡ ops.Call k → IsReached k
 
   -- an instruction that a task may have
+  abbrev pub MakesNoEvent : Role → Type 0
+  MakesNoEvent (Pushing below) = Unit {0}
+  MakesNoEvent (Computing taken given) = Unit {0}
+  MakesNoEvent Dividing = Unit {0}
+  MakesNoEvent (Accessing taken) = Unit {0}
+  MakesNoEvent (Jumping to) = Unit {0}
+  MakesNoEvent (Branching to) = Unit {0}
+  MakesNoEvent (Calling k) = Unit {0}
+  MakesNoEvent (Submitting k) = ⊥
+  MakesNoEvent (Marking kind) = ⊥
+  MakesNoEvent Turning = Unit {0}
+  MakesNoEvent Writing = ⊥
+  MakesNoEvent Returning = Unit {0}
+
   abbrev pub IsQuiet : Op → Type 0
-  IsQuiet (ops.Out c) = ⊥
-  IsQuiet (ops.Submit k) = ⊥
-  IsQuiet (ops.Mark kind) = ⊥
-  IsQuiet op = Unit {0}
+  IsQuiet op = MakesNoEvent (role_of op)
 
   -- ---- the code
 

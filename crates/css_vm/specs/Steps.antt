@@ -5,7 +5,6 @@ use Rattle.css_semantics.specs.Dialogue.{Action, Reply, Tape, World, Goes}
 use Rattle.css_semantics.specs.Units.{with_units, metered, spending}
 use Rattle.css_vm.specs.declared.code.Instr.{Instr}
 use Rattle.css_vm.specs.declared.code.Op.{Op}
-use Rattle.css_vm.specs.declared.code.Op.TheVariants as ops
 use Rattle.css_vm.specs.declared.machine.Event.{Event}
 use Rattle.css_vm.specs.declared.machine.Event.TheVariants as events
 use Rattle.css_vm.specs.declared.step.Pause.{Pause}
@@ -13,6 +12,7 @@ use Rattle.css_vm.specs.declared.step.Pause.TheVariants as pauses
 use Rattle.css_vm.specs.declared.rounds.Round.{Round}
 use Rattle.css_vm.specs.declared.rounds.Round.TheVariants as rounds
 use Rattle.css_vm.specs.Code.{Routine, Code}
+use Rattle.css_vm.specs.Roles.{Role, Pushing, Computing, Dividing, Accessing, Jumping, Branching, Calling, Submitting, Marking, Turning, Writing, Returning, role_of}
 use Rattle.css_vm.specs.Machine.{State, Begin, At, Caller, exec, entered, stores}
 use Rattle.css_vm.specs.Soundness.{Spot, IsSoundBody, IsSound, IsAt}
 use Rattle.css_vm.specs.Events.{Along, StopsAt, Reaches, Leaves, IsStacked}
@@ -22,14 +22,22 @@ use Rattle.css_vm.specs.States.{depth}
 -- ---- steps inside a function
 
 -- the instructions at which the steps of an activation pause
+abbrev pub pauses_at : Role → Bool
+pauses_at (Pushing below) = false
+pauses_at (Computing taken given) = false
+pauses_at Dividing = false
+pauses_at (Accessing taken) = false
+pauses_at (Jumping to) = false
+pauses_at (Branching to) = false
+pauses_at (Calling k) = true
+pauses_at (Submitting k) = true
+pauses_at (Marking kind) = true
+pauses_at Turning = true
+pauses_at Writing = true
+pauses_at Returning = true
+
 abbrev pub is_pause : Op → Bool
-is_pause (ops.Call k) = true
-is_pause (ops.Submit k) = true
-is_pause (ops.Mark kind) = true
-is_pause ops.Turn = true
-is_pause (ops.Out c) = true
-is_pause ops.Ret = true
-is_pause _ = false
+is_pause op = pauses_at (role_of op)
 
 -- a place of a function's body has a height, by a plan that is sound in some code
 abbrev pub IsPlaced : Routine → (place height : ℕ) → Type 0

@@ -17,7 +17,7 @@ use std::alloc::Global;
 use std::marker::Model;
 
 /// A caller, as it goes on when the function that it called returns.
-#[derive(Clone, Copy, Debug)]
+#[derive(Clone, Copy)]
 pub(crate) struct Saved {
     function: u32,
     base: u32,
@@ -27,7 +27,7 @@ pub(crate) struct Saved {
 }
 
 /// The activations of functions that have called one another. Contracts see the state inside them.
-#[derive(Drop, Debug)]
+#[derive(Drop)]
 pub(crate) struct Activations {
     // The innermost function's number, its frame's address, and the place of its next instruction.
     function: u32,

@@ -53,7 +53,7 @@ pub enum MarkKind {
 
 /// What an instruction does. `a, b -> c` shows the cells that it takes, the top last, and those that it gives. A value of a type
 /// is kept extended to 64 bits, by its sign where it has one.
-#[derive(Clone, Copy, PartialEq, Eq, Debug)]
+#[derive(Clone, Copy, PartialEq, Eq)]
 pub enum Op {
     /// `-> V`: pushes a number, as its two's complement.
     Push(i64),
@@ -122,14 +122,14 @@ pub enum Op {
 }
 
 /// An instruction with the line of the program's text that it comes from.
-#[derive(Clone, Copy, PartialEq, Eq, Debug)]
+#[derive(Clone, Copy)]
 pub struct Instr {
     pub op: Op,
     pub line: Line,
 }
 
 /// What a task is given for one of its parameters.
-#[derive(Clone, Copy, PartialEq, Eq, Debug)]
+#[derive(Clone, Copy)]
 pub enum ArgShape {
     /// An integer.
     Scalar,
@@ -147,7 +147,7 @@ pub enum ArgShape {
 }
 
 /// What a call of a task is.
-#[derive(Drop, Debug)]
+#[derive(Drop)]
 pub struct TaskShape {
     /// Whether it goes before others.
     pub high: bool,
@@ -156,7 +156,7 @@ pub struct TaskShape {
 }
 
 /// A function. Its parameters lie at the front of its frame, each in 8 bytes.
-#[derive(Drop, Debug)]
+#[derive(Drop)]
 pub struct Function {
     /// The bytes of its frame.
     pub frame: u32,
@@ -169,7 +169,7 @@ pub struct Function {
 }
 
 /// A program's code.
-#[derive(Drop, Debug)]
+#[derive(Drop)]
 pub struct Code {
     pub functions: Vec<Function>,
     /// The number of main among the functions.

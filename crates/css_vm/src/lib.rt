@@ -2,8 +2,10 @@
 #![tactic(auto)]
 
 mod activations;
+mod big_endian;
 mod cells;
 mod code;
+mod engine;
 mod entry;
 mod machine;
 mod operations;
@@ -15,9 +17,10 @@ mod step;
 mod submission;
 mod units;
 
+pub use big_endian::{byte_count, number_of, overwrite, write_number};
 pub use code::{
     ArgShape, Code, Conversion, Function, Instr, MarkKind, Narrow, Op, ShiftWidth, TaskShape,
 };
-pub use machine::{Event, Machine, Submitted};
+pub use machine::{Due, Event, Machine, Submitted};
 pub use printed::Printed;
 pub use space::{Space, Width};

@@ -1,23 +1,22 @@
 //! The stack machine.
-ghost use Rattle.std.specs.Prelude.{◌≡◌, IfOk, length};
-ghost use Rattle.css_vm.specs.Machine.{Begin, answered, IsOwed};
+ghost use Rattle.std.specs.Prelude.{◌≡◌, IfOk, OnErr, length};
+ghost use Rattle.css_vm.specs.Machine.{Begin, answered};
+ghost use Rattle.css_vm.specs.Due.{due_after, TakesAnswer};
 ghost use Rattle.css_vm.specs.Code.{code_of};
 ghost use Rattle.css_vm.specs.Soundness.{Fits};
 ghost use Rattle.css_semantics.specs.Units.{with_units, metered, spending};
 ghost use Rattle.css_vm.specs.Events.{Reaches, Leaves, IsStacked, IsInside, base_of};
 
-use crate::activations::Activations;
 use crate::code::{Code, MarkKind};
-use crate::entry::enter;
+use crate::engine::Engine;
 use crate::printed::Printed;
-use crate::rounds::run;
 use crate::space::Space;
 use css_base::{Line, NoMemory, Stop};
 use std::alloc::Global;
 use std::marker::Model;
 
 /// A call of a task that was asked for.
-#[derive(Drop, Debug)]
+#[derive(Drop)]
 pub struct Submitted {
     /// The task's number among the functions.
     pub function: u32,
@@ -30,7 +29,7 @@ pub struct Submitted {
 }
 
 /// What a machine's run comes to.
-#[derive(Drop, Debug)]
+#[derive(Drop)]
 pub enum Event {
     /// It writes bytes, and is owed their number as an answer.
     Out(Printed),
@@ -44,23 +43,48 @@ pub enum Event {
     Stopped(Stop, Line),
 }
 
-/// A machine. Contracts see its state.
-#[derive(Drop, Debug)]
+/// What a machine takes next.
+#[derive(Clone, Copy, PartialEq, Eq, Debug)]
+pub enum Due {
+    /// A run.
+    Run,
+    /// An answer, which takes the topmost cell's place.
+    Value,
+    /// An answer that it doesn't keep.
+    Signal,
+    /// Nothing: it has ended or stopped, or there was no memory.
+    Nothing,
+}
+
+/// A machine. Contracts see its state, and what it takes next.
+#[derive(Drop)]
 pub struct Machine {
-    begun: bool,
-    function: u32,
-    arguments: Vec<u64>,
-    line: Line,
-    activations: Activations,
+    engine: Engine,
+    due: Due,
 }
 
 impl Model for Machine {
-    ghost use Rattle.std.specs.Prelude.{if◌then◌else◌};
-    ghost use Rattle.css_vm.specs.Machine.{State, Begin};
+    ghost use Rattle.css_vm.specs.Due as as_seen;
 
-    ghost Value = { State };
+    ghost Value = { as_seen.Machine };
 
-    ghost view = { λ m. if m.begun then m.activations else Begin m.function m.arguments.items m.line };
+    ghost view = { λ m. record { state = m.engine; due = m.due } };
+}
+
+// What a machine takes after an event.
+fn due_after(event: &Event) -> Due
+    ensures { result ≡ due_after event.now }
+{
+    match event {
+        Event::Out(_) => Due::Value,
+        Event::Submit(_) => Due::Value,
+        Event::Mark(MarkKind::Started, _) => Due::Value,
+        Event::Mark(MarkKind::Start, _) => Due::Signal,
+        Event::Mark(MarkKind::Finish, _) => Due::Signal,
+        Event::Mark(MarkKind::Barrier, _) => Due::Signal,
+        Event::Ended(_, _) => Due::Nothing,
+        Event::Stopped(_, _) => Due::Nothing,
+    }
 }
 
 impl Machine {
@@ -72,22 +96,18 @@ impl Machine {
         arguments: &[u64],
         line: Line,
     ) -> Result<Machine, NoMemory>
-        ensures { IfOk result (λ m. m ≡ Begin function arguments.now line) }
+        ensures state { IfOk result (λ m. m.state ≡ Begin function arguments.now line) }
+        ensures due { IfOk result (λ m. m.due ≡ Due.Run) }
     {
-        let _code = code;
-        let arguments = Vec::from_slice(alloc, arguments)?;
         Ok(Machine {
-            begun: false,
-            function,
-            arguments,
-            line,
-            activations: Activations::new(alloc, function, 0),
+            engine: Engine::new(alloc, code, function, arguments, line)?,
+            due: Due::Run,
         })
     }
 
     /// Takes the steps up to the next event. Each entry of a function and of a loop's body takes one of the units; where none is
     /// left the rule on units stops the machine, but not where another rule does. After `NoMemory`, which comes where the stack
-    /// can't grow, and after `Ended` and `Stopped` the machine isn't run again.
+    /// can't grow, and after `Ended` and `Stopped` the machine isn't run again; after each other event it takes an answer first.
     pub fn run_to_event<S: Space>(
         &mut self,
         alloc: Global,
@@ -95,38 +115,42 @@ impl Machine {
         space: &mut S,
         units: &mut u64,
     ) -> Result<Event, NoMemory>
-        requires fits { Fits (code_of code.now) self.old }
-        requires stacked { IsStacked (code_of code.now) (S.place space.old) self.old }
+        requires due { self.old.due ≡ Due.Run }
+        requires fits { Fits (code_of code.now) self.old.state }
+        requires stacked { IsStacked (code_of code.now) (S.place space.old) self.old.state }
         ensures event { IfOk result (λ e. Reaches (metered S.reply) (spending S.learn) (code_of code.now)
-            self.old (with_units space.old units.old) e self.new (with_units space.new units.new)) }
-        ensures leaves { IfOk result (λ e. Leaves (code_of code.now) self.old units.old e self.new units.new (S.place space.new)) }
+            self.old.state (with_units space.old units.old) e self.new.state (with_units space.new units.new)) }
+        ensures leaves { IfOk result (λ e. Leaves (code_of code.now) self.old.state units.old e self.new.state units.new (S.place space.new)) }
+        ensures due { IfOk result (λ e. self.new.due ≡ due_after e) }
+        ensures over { OnErr result (self.new.due ≡ Due.Nothing) }
     {
-        if self.begun {
-            return run(&mut self.activations, alloc, code, space, units);
-        }
-        match enter(code.function(self.function), &self.arguments, space, units) {
-            Ok(base) => {
-                self.activations = Activations::new(alloc, self.function, base);
-                self.begun = true;
-                run(&mut self.activations, alloc, code, space, units)
-            }
-            Err(stop) => Ok(Event::Stopped(stop, self.line)),
-        }
+        self.due = Due::Nothing;
+        let event = self.engine.run_to_event(alloc, code, space, units)?;
+        self.due = due_after(&event);
+        Ok(event)
     }
 
     /// The base of the innermost frame, once the function is entered.
     pub fn base(&self) -> u32
-        requires { IsInside self.now }
-        ensures { result ≡ base_of self.now }
+        requires { IsInside self.now.state }
+        ensures { result ≡ base_of self.now.state }
     {
-        self.activations.base()
+        self.engine.base()
     }
 
-    /// Resumes after an event that is owed an answer.
+    /// Answers an event. The machine keeps the answer to an output, to a task's call and to the question whether tasks are made.
     pub fn answer(&mut self, value: u64)
-        requires { IsOwed self.old }
-        ensures { self.new ≡ answered value self.old }
+        requires { TakesAnswer self.old.due self.old.state }
+        ensures value { self.old.due ≡ Due.Value → self.new.state ≡ answered value self.old.state }
+        ensures signal { self.old.due ≡ Due.Signal → self.new.state ≡ self.old.state }
+        ensures due { self.new.due ≡ Due.Run }
     {
-        self.activations.answer(value);
+        match self.due {
+            Due::Value => self.engine.answer(value),
+            Due::Signal => {}
+            Due::Run => unreachable!(),
+            Due::Nothing => unreachable!(),
+        }
+        self.due = Due::Run;
     }
 }

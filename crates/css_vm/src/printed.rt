@@ -4,7 +4,7 @@ ghost use Rattle.std.specs.Prelude.{◌≡◌, [], ◌∷◌};
 use std::marker::Model;
 
 /// The bytes that one `out` writes. Contracts see their list.
-#[derive(Drop, Debug)]
+#[derive(Drop)]
 pub struct Printed {
     bytes: [u8; 1],
 }

@@ -8,7 +8,7 @@ use std::marker::Model;
 
 /// The cells of all activations that are open, in one vector. Contracts see those of the innermost from the top down, and those
 /// below them from the lowest on.
-#[derive(Drop, Debug)]
+#[derive(Drop)]
 pub(crate) struct Stack {
     cells: Vec<u64>,
     // Where the innermost activation's cells begin.

@@ -3,7 +3,7 @@ use crate::command::Command;
 use crate::options::OptionName;
 
 /// The commands and options that the program has so far. The words of any other are refused.
-#[derive(Clone, Copy, Debug)]
+#[derive(Clone, Copy)]
 pub struct Built<'a> {
     /// Its commands.
     pub commands: &'a [Command],

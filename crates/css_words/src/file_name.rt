@@ -4,7 +4,7 @@ ghost use Rattle.std.specs.Prelude.{◌≡◌, string_bytes};
 use std::marker::Model;
 
 /// The name of a file, as the words have it. Contracts see its bytes.
-#[derive(Drop, Debug)]
+#[derive(Drop)]
 pub struct FileName {
     text: String,
 }

@@ -23,6 +23,3 @@ pub use options::OptionName;
 pub use reading::read_words;
 pub use request::Request;
 pub use table::{OptionKind, OptionRow, row};
-
-#[cfg(test)]
-mod tests;

@@ -4,7 +4,7 @@ use crate::file_name::FileName;
 use css_base::Limits;
 
 /// What the words ask for. What they don't give has its default; a name that they don't give is empty, and a number 0.
-#[derive(Drop, Debug)]
+#[derive(Drop)]
 pub struct Request {
     /// What to do.
     pub command: Command,

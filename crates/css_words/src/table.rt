@@ -24,7 +24,7 @@ pub enum OptionKind {
 }
 
 /// An option's row in the table.
-#[derive(Clone, Copy, Debug)]
+#[derive(Clone, Copy)]
 pub struct OptionRow {
     /// Its name behind the two dashes.
     pub name: &'static str,

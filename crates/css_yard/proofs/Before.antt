@@ -4,6 +4,7 @@ use Rattle.std.specs.List.{slice_get}
 use Rattle.std.proofs.lemmas.List.{take-append-le, take-append-drop}
 use Rattle.std.proofs.lemmas.List.Elements.{Contains-append_left}
 use Rattle.std.proofs.lemmas.Option.{slice_get_within}
+use Rattle.css_base.specs.declared.limits.Limits.{Limits}
 use Rattle.css_record.specs.declared.version.VersionName.{VersionName}
 use Rattle.css_record.specs.declared.version.VersionName.TheVariants as names
 use Rattle.css_record.specs.Records.{uses}
@@ -27,8 +28,8 @@ of_input code submits given (names.Given place) u fits = tt
 of_input code submits given (names.Made task out) u (v, made, long) = (made.submit, made.is_there, made.number)
 
 -- the inputs of a submit are of tasks before it
-inputs_of : (code : Code) (before : List Submit) (s : Submit) → MaySubmit code before s.rec s.given → (k : ℕ) (version : VersionName) → slice_get s.rec.inputs.items k ≡ Some version → IsOf before version
-inputs_of code before s may k version is =
+inputs_of : (code : Code) (limits : Limits) (before : List Submit) (s : Submit) → MaySubmit code limits before s.rec s.given → (k : ℕ) (version : VersionName) → slice_get s.rec.inputs.items k ≡ Some version → IsOf before version
+inputs_of code limits before s may k version is =
     let f = may.fits.routine in
     let shape = may.fits.shape in
     let u = is_within (reading (uses shape s.rec)) k (omega (arith, slice_get_within s.rec.inputs.items k version is, may.fits.inputs)) in
@@ -38,7 +39,7 @@ of_more : (before submits : List Submit) (version : VersionName) → ((t : Submi
 of_more before submits (names.Given place) all of = tt
 of_more before submits (names.Made task out) all (t, has, number) = (t, all t has, number)
 
-module _ (code : Code) (units : ℕ) (submits more : List Submit) (are : AreSubmitted code (submits ++ more)) where
+module _ (code : Code) (limits : Limits) (units : ℕ) (submits more : List Submit) (are : AreSubmitted code limits (submits ++ more)) where
   -- those before one of the first submits are among them
   front_of : (k : ℕ) → k ≤ length submits → (t : Submit) → Contains (take k (submits ++ more)) t → Contains submits t
   front_of k few t has =
@@ -50,12 +51,12 @@ module _ (code : Code) (units : ℕ) (submits more : List Submit) (are : AreSubm
     ends_before {number} (Alone s inputs has is values alone) t among same =
         let place = place_of (submits ++ more) s has in
         let at = place_of submits t among in
-        let one : place.0 ≡ at.0 = one_place code (submits ++ more) are place.0 at.0 s t place.1 (before_more submits more at.0 t at.1) (is ∙ sym same) in
+        let one : place.0 ≡ at.0 = one_place code limits (submits ++ more) are place.0 at.0 s t place.1 (before_more submits more at.0 t at.1) (is ∙ sym same) in
         let below : place.0 ≤ length submits = omega (arith, one, slice_get_within submits at.0 t at.1) in
         let both : Some s ≡ Some t = sym place.1 ∙ ap (slice_get (submits ++ more)) one ∙ before_more submits more at.0 t at.1 in
         let it : t ≡ s = cc in
         Alone s inputs (subst (Contains submits) it among) is
-        (values_before values (λ k version is. of_more (take place.0 (submits ++ more)) submits version (front_of place.0 below) (inputs_of code (take place.0 (submits ++ more)) s (are place.0 s place.1) k version is)))
+        (values_before values (λ k version is. of_more (take place.0 (submits ++ more)) submits version (front_of place.0 below) (inputs_of code limits (take place.0 (submits ++ more)) s (are place.0 s place.1) k version is)))
         alone
 
     pub value_before : {given : List (List ℕ)} {version : VersionName} {bytes : List ℕ} → IsValue code units (submits ++ more) given version bytes → IsOf submits version → IsValue code units submits given version bytes

@@ -2,6 +2,7 @@
 use Rattle.std.proofs.Common.{◌≡◌, ◌+◌, ◌-◌, ℕ, suc, List, [], ◌∷◌, length, Option, Some, None, All, ◌⊎◌, inl, inr, refl, sym, ◌∙◌, ap, ap₂, subst, arith}
 use Rattle.std.specs.List.{slice_get}
 use Rattle.std.proofs.lemmas.Option.{slice_get_within}
+use Rattle.css_base.specs.declared.limits.Limits.{Limits}
 use Rattle.css_record.specs.declared.version.VersionName.{VersionName}
 use Rattle.css_record.specs.declared.version.VersionName.TheVariants as names
 use Rattle.css_semantics.specs.Tasks.{Use, window_length}
@@ -21,12 +22,15 @@ first_of : (tasks : List Done) (d : Done) → slice_get tasks 0 ≡ Some d → f
 first_of [] d is = cc
 first_of (e ∷ tasks) d is = let same : e ≡ d = cc in ap (λ (x : Done). x.number) same
 
-module _ (code : Code) (units : ℕ) (tasks : List Done) (done : AreDone code units tasks) where
+module _ (code : Code) (limits : Limits) (tasks : List Done) (done : AreDone code limits tasks) where
+  abbrev units : ℕ
+  units = limits.task_units
+
   -- each task's place says its number
   pub number_at : (k : ℕ) (d : Done) → slice_get tasks k ≡ Some d → d.number ≡ first_number tasks + k
   number_at k d is =
       let first = is_within tasks 0 (omega (arith, slice_get_within tasks k d is)) in
-      let follow = numbers_follow code (submits_of tasks) done.submitted k (submit_of first.0) (submit_of d) (mapped_at submit_of tasks 0 first.0 first.1) (mapped_at submit_of tasks k d is) in
+      let follow = numbers_follow code limits (submits_of tasks) done.submitted k (submit_of first.0) (submit_of d) (mapped_at submit_of tasks 0 first.0 first.1) (mapped_at submit_of tasks k d is) in
       omega (arith, follow, done.numbers 0 first.0 first.1, done.numbers k d is, first_of tasks first.0 first.1)
 
   -- the task of a version that can be fetched
@@ -48,7 +52,7 @@ module _ (code : Code) (units : ℕ) (tasks : List Done) (done : AreDone code un
   outs_there : (task out : ℕ) (u : Use) (made : IsMade code (submits_of tasks) task out u) (outs : List (List ℕ)) → Ends code units (submits_of tasks) task (Outs outs)
       → (bytes : List ℕ) × (slice_get outs out ≡ Some bytes) × (length bytes ≡ window_length u.window)
   outs_there task out u made outs (Alone s inputs has is values alone) =
-      let one : s ≡ made.submit = one_submit code (submits_of tasks) done.submitted s made.submit has made.is_there (is ∙ sym made.number) in
+      let one : s ≡ made.submit = one_submit code limits (submits_of tasks) done.submitted s made.submit has made.is_there (is ∙ sym made.number) in
       out_is_there code made.submit.rec made.routine made.shape inputs units outs out u made.task_of (subst (λ (x : Submit). IsAlone code x.rec inputs units (Outs outs)) one alone) made.parameter
 
   -- by how the task came out

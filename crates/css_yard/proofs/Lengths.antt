@@ -10,6 +10,7 @@ use Rattle.css_semantics.specs.Alone.{TaskMemory, task_bytes, bytes_left, outs, 
 use Rattle.css_semantics.specs.Worlds.{state_after}
 use Rattle.css_vm.specs.Code.{Routine, Shape, Code}
 use Rattle.css_task.specs.Alone.{TaskOf, Outs, IsAlone}
+use Rattle.css_task.proofs.OneTask.{comes_alone}
 use Rattle.css_yard.specs.Yards.{written}
 use Rattle.css_yard.proofs.OneEnd.{units_alone}
 use Rattle.css_yard.proofs.Lists.{at_mapped, mapped_at}
@@ -46,7 +47,7 @@ pub out_is_there : (code : Code) (r : TaskRecord) (f : Routine) (s : Shape) (inp
     → IsAlone code r inputs units (Outs made) → slice_get (written (uses s r)) out ≡ Some u
     → (bytes : List ℕ) × (slice_get made out ≡ Some bytes) × (length bytes ≡ window_length u.window)
 out_is_there code r f s inputs units made out u of alone is =
-    let (n, cell, tape, goes, are) = alone f s (units_alone units) of refl in
+    let (n, cell, tape, goes, are) = comes_alone code r inputs units (Outs made) alone f s (units_alone units) of refl in
     let m : TaskMemory = (state_after alone_after (at_entry (uses s r) inputs r.stack_place) tape).memory in
     let lengths : map length made ≡ lengths_of (written (uses s r)) = ap (map length) are ∙ outs_lengths m (uses s r) in
     let at = mapped_at (λ (v : Use). window_length v.window) (written (uses s r)) out u is in

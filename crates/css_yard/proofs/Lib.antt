@@ -7,8 +7,7 @@ pub mod Lengths
 pub mod Kept
 pub mod Stops
 pub mod Submitted
-pub mod Parts
+pub mod RecordParts
 pub mod Refusals
-pub mod Rows
 pub mod Before
 pub mod Generations

@@ -9,6 +9,7 @@ use Rattle.css_record.specs.Records.{FitsCode, uses, arguments}
 use Rattle.css_semantics.specs.Alone.{alone_world, outs_after}
 use Rattle.css_vm.specs.Code.{Shape, Code}
 use Rattle.css_task.specs.Alone.{TaskOf, End, Outs, Halted, ComesTo, IsAlone}
+use Rattle.css_task.proofs.OneTask.{comes_alone}
 use Rattle.css_yard.specs.Values.{Submit, Ends, IsValue, AreValues, IsFirstStop, Alone, Given, Made, NoMore, More}
 use Rattle.css_yard.specs.Submits.{AreSubmitted}
 use Rattle.css_yard.proofs.OneRun.{one_tape, goes_or_stops, one_stop}
@@ -46,16 +47,16 @@ alone_is_one code r inputs units a b fits one other =
     let f = fits.routine in
     let s = fits.shape in
     let limits = units_alone units in
-    comes_to_one code r s inputs limits a b (one f s limits (task_of code r fits) refl) (other f s limits (task_of code r fits) refl)
+    comes_to_one code r s inputs limits a b (comes_alone code r inputs units a one f s limits (task_of code r fits) refl) (comes_alone code r inputs units b other f s limits (task_of code r fits) refl)
 
-module _ (code : Code) (units : ℕ) (submits : List Submit) (are : AreSubmitted code submits) where
+module _ (code : Code) (limits : Limits) (units : ℕ) (submits : List Submit) (are : AreSubmitted code limits submits) where
   fits_code : (s : Submit) → Contains submits s → FitsCode code s.rec
   fits_code s has = let p = place_of submits s has in (are p.0 s p.1).fits
 
   mutual
     pub one_end : {number : ℕ} {a b : End} → Ends code units submits number a → Ends code units submits number b → a ≡ b
     one_end {a = a} {b = b} (Alone s inputs has is values alone) (Alone s' inputs' has' is' values' alone') =
-        let same : s' ≡ s = one_submit code submits are s' s has' has (is' ∙ sym is) in
+        let same : s' ≡ s = one_submit code limits submits are s' s has' has (is' ∙ sym is) in
         let read : inputs' ≡ inputs = sym (one_values values (subst (λ (x : Submit). AreValues code units submits x.given x.rec.inputs.items inputs') same values')) in
         alone_is_one code s.rec inputs units a b (fits_code s has) alone
         (subst (λ i. IsAlone code s.rec i units b) read (subst (λ (x : Submit). IsAlone code x.rec inputs' units b) same alone'))

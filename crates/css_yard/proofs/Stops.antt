@@ -1,6 +1,7 @@
 -- The first stop of the kept ends is that of the definitions.
 use Rattle.std.proofs.Common.{◌≡◌, ◌<◌, ℕ, zero, suc, List, [], ◌∷◌, Option, Some, None, ◌⊎◌, inl, inr, refl, sym, ◌∙◌, ap, subst, arith}
 use Rattle.std.specs.List.{slice_get}
+use Rattle.css_base.specs.declared.limits.Limits.{Limits}
 use Rattle.css_base.specs.declared.ending.Stop.{Stop}
 use Rattle.css_vm.specs.Code.{Code}
 use Rattle.css_task.specs.Alone.{End, Outs, Halted}
@@ -74,7 +75,10 @@ none_stopped (e ∷ tasks) none (suc k) d is stopped = none_stopped tasks (one_n
 pub stopped_has_first : (tasks : List Done) → first_stop tasks ≡ None → AnyStopped tasks → ⊥
 stopped_has_first tasks none (k, d, is, stopped) = none_stopped tasks none k d is stopped
 
-module _ (code : Code) (units : ℕ) (tasks : List Done) (done : AreDone code units tasks) where
+module _ (code : Code) (limits : Limits) (tasks : List Done) (done : AreDone code limits tasks) where
+  abbrev units : ℕ
+  units = limits.task_units
+
   -- the place of a task that comes to an end
   place_of_end : (number : ℕ) (end : End) → Ends code units (submits_of tasks) number end → (k : ℕ) × (d : Done) × (slice_get tasks k ≡ Some d) × (d.number ≡ number)
   place_of_end number end (Alone s inputs has is values alone) =
@@ -86,7 +90,7 @@ module _ (code : Code) (units : ℕ) (tasks : List Done) (done : AreDone code un
   halts_by : (k : ℕ) (d : Done) (stop : Stop) (line : ℕ) → slice_get tasks k ≡ Some d → NoneBefore tasks k → (HasStopped d → ⊥) → (end : Option SharedEnd) → d.end ≡ end
       → Ends code units (submits_of tasks) d.number (Halted stop line) → ⊥
   halts_by k d stop line is none not (Some (ends.Outs outs)) ended halted =
-      let one : Outs outs.items ≡ Halted stop line = one_end code units (submits_of tasks) done.submitted (done.ends k d (ends.Outs outs) is ended) halted in cc
+      let one : Outs outs.items ≡ Halted stop line = one_end code limits units (submits_of tasks) done.submitted (done.ends k d (ends.Outs outs) is ended) halted in cc
   halts_by k d stop line is none not (Some (ends.Stopped stop' line')) ended halted = not (stop', line', ended)
   halts_by k d stop line is none not None ended halted = let held = done.held k d is ended in none held.0 held.1 held.2 held.3 held.4
 
@@ -97,7 +101,7 @@ module _ (code : Code) (units : ℕ) (tasks : List Done) (done : AreDone code un
         stops = subst (λ n. Ends code units (submits_of tasks) n (Halted h.stop h.line)) first.number (done.ends first.place first.task (ends.Stopped h.stop h.line) first.is_there first.stopped);
         first = λ lower other line below halted.
             let (k, d, at, number) = place_of_end lower (Halted other line) halted in
-            let before : k < first.place = omega (arith, number_at code units tasks done k d at, number_at code units tasks done first.place first.task first.is_there, first.number, number, below) in
+            let before : k < first.place = omega (arith, number_at code limits tasks done k d at, number_at code limits tasks done first.place first.task first.is_there, first.number, number, below) in
             halts_by k d other line at (λ j e less. first.none j e (omega (arith, less, before))) (first.none k d before at) d.end refl
             (subst (λ n. Ends code units (submits_of tasks) n (Halted other line)) (sym number) halted);
       }

@@ -4,6 +4,7 @@ use Rattle.std.specs.List.{slice_get}
 use Rattle.std.proofs.lemmas.List.{map-append}
 use Rattle.std.proofs.lemmas.List.Elements.{Contains-append_left, Contains-append_right}
 use Rattle.std.proofs.lemmas.Option.{slice_get_within}
+use Rattle.css_base.specs.declared.limits.Limits.{Limits}
 use Rattle.css_record.specs.declared.task_record.TaskRecord.{TaskRecord}
 use Rattle.css_record.specs.declared.version.VersionName.{VersionName}
 use Rattle.css_record.specs.declared.version.VersionName.TheVariants as names
@@ -14,6 +15,7 @@ use Rattle.css_task.specs.Alone.{TaskOf, InputsOf, IsAlone, end_of}
 use Rattle.css_task.specs.declared.shared.SharedEnd.{SharedEnd}
 use Rattle.css_yard.specs.declared.done.Done.{Done}
 use Rattle.css_yard.specs.Values.{Submit, Ends, AreValues, Alone, Given}
+use Rattle.css_task.proofs.OneTask.{one_shape}
 use Rattle.css_yard.specs.Yards.{FitsInput, AgreeAsInputs, AreInputs, MaySubmit, reading}
 use Rattle.css_yard.specs.Submits.{AreSubmitted}
 use Rattle.css_yard.specs.Kept.{submit_of, submits_of, value_at, values_at, with_value, HasStopped, AnyStopped, CameTo, AreDone}
@@ -51,26 +53,22 @@ value_in tasks given (v ∷ versions) values is (suc k) version at =
 
 -- ---- inputs
 
--- a record has one task
-pub one_task : (code : Code) (r : TaskRecord) (f f' : Routine) (s s' : Shape) → TaskOf code r f s → TaskOf code r f' s' → s ≡ s'
-one_task code r f f' s s' of of' =
-    let both : Some f ≡ Some f' = sym of.function ∙ of'.function in
-    let same : f ≡ f' = cc in
-    let shapes : Some s ≡ Some s' = sym of.task ∙ ap (λ (x : Routine). x.task) same ∙ of'.task in cc
+module _ (code : Code) (limits : Limits) (tasks : List Done) (done : AreDone code limits tasks) (r : TaskRecord) (given : List (List ℕ)) (may : MaySubmit code limits (submits_of tasks) r given) where
+  abbrev units : ℕ
+  units = limits.task_units
 
-module _ (code : Code) (units : ℕ) (tasks : List Done) (done : AreDone code units tasks) (r : TaskRecord) (given : List (List ℕ)) (may : MaySubmit code (submits_of tasks) r given) where
   -- there is an input for each window that is read
   as_many_inputs : (f : Routine) (s : Shape) → TaskOf code r f s → length r.inputs.items ≡ length (reading (uses s r))
   as_many_inputs f s of =
-      let same = one_task code r may.fits.routine f may.fits.shape s (task_of code r may.fits) of in
+      let same = one_shape code r may.fits.routine f may.fits.shape s (task_of code r may.fits) of in
       may.fits.inputs ∙ ap (λ z. length (reading (uses z r))) same
 
-  comes_as : (version : VersionName) (u : Use) → FitsInput code (submits_of tasks) given version u → Comes code units tasks done given version (window_length u.window)
+  comes_as : (version : VersionName) (u : Use) → FitsInput code (submits_of tasks) given version u → Comes code limits tasks done given version (window_length u.window)
   comes_as (names.Given place) u (bytes, is, long) = inl (bytes, is, Given place is, long)
   comes_as (names.Made task out) u (v, made, long) =
-      subst (λ n. Comes code units tasks done given (names.Made task out) n) long (made_comes code units tasks done given task out v made)
+      subst (λ n. Comes code limits tasks done given (names.Made task out) n) long (made_comes code limits tasks done given task out v made)
 
-  input_comes : (k : ℕ) (version : VersionName) → slice_get r.inputs.items k ≡ Some version → (width : ℕ) × Comes code units tasks done given version width
+  input_comes : (k : ℕ) (version : VersionName) → slice_get r.inputs.items k ≡ Some version → (width : ℕ) × Comes code limits tasks done given version width
   input_comes k version is =
       let f = may.fits.routine in
       let s = may.fits.shape in
@@ -79,10 +77,10 @@ module _ (code : Code) (units : ℕ) (tasks : List Done) (done : AreDone code un
       (window_length u.0.window, comes_as version u.0 (may.inputs s f of k version u.0 is u.1))
 
   -- the values of the inputs are there, or a task has stopped
-  inputs_come : AllCome code units tasks done given r.inputs.items
-  inputs_come = all_come code units tasks done given r.inputs.items input_comes
+  inputs_come : AllCome code limits tasks done given r.inputs.items
+  inputs_come = all_come code limits tasks done given r.inputs.items input_comes
 
-  width_of : (bytes : List ℕ) (version : VersionName) (width : ℕ) → value_at tasks given version ≡ Some bytes → Comes code units tasks done given version width → length bytes ≡ width
+  width_of : (bytes : List ℕ) (version : VersionName) (width : ℕ) → value_at tasks given version ≡ Some bytes → Comes code limits tasks done given version width → length bytes ≡ width
   width_of bytes version width is (inl (other, there, value, long)) = let same : bytes ≡ other = cc in ap length same ∙ long
   width_of bytes version width is (inr (none, stopped)) = cc
 
@@ -123,11 +121,11 @@ module _ (code : Code) (units : ℕ) (tasks : List Done) (done : AreDone code un
 
   -- their values are those of the definitions
   pub inputs_are : (values : List (List ℕ)) → values_at tasks given r.inputs.items ≡ Some values → AreValues code units (submits_of tasks) given r.inputs.items values
-  inputs_are values is = all_values code units tasks done given r.inputs.items values inputs_come is
+  inputs_are values is = all_values code limits tasks done given r.inputs.items values inputs_come is
 
   -- where one isn't there, a task has stopped
   pub missing_input : values_at tasks given r.inputs.items ≡ None → AnyStopped tasks
-  missing_input is = one_missing code units tasks done given r.inputs.items inputs_come is
+  missing_input is = one_missing code limits tasks done given r.inputs.items inputs_come is
 
   -- ---- behind the others
 
@@ -141,10 +139,10 @@ module _ (code : Code) (units : ℕ) (tasks : List Done) (done : AreDone code un
     it_is_there : Contains (submits_of (tasks ++ d ∷ [])) (submit_of d)
     it_is_there = subst (λ xs. Contains xs (submit_of d)) (sym with_it) (Contains-append_right (submits_of tasks) (submit_of d ∷ []) (submit_of d) (has_place (submit_of d ∷ []) 0 (submit_of d) refl))
 
-    are_submitted : AreSubmitted code (submits_of (tasks ++ d ∷ []))
+    are_submitted : AreSubmitted code limits (submits_of (tasks ++ d ∷ []))
     are_submitted =
-        subst (AreSubmitted code) (sym with_it) (one_more_submitted code (submits_of tasks) (submit_of d) done.submitted
-        (subst (λ (x : Submit). MaySubmit code (submits_of tasks) x.rec x.given) (sym same) may))
+        subst (AreSubmitted code limits) (sym with_it) (one_more_submitted code limits (submits_of tasks) (submit_of d) done.submitted
+        (subst (λ (x : Submit). MaySubmit code limits (submits_of tasks) x.rec x.given) (sym same) may))
 
     end_came : (end : SharedEnd) (e : Option SharedEnd) → e ≡ Some end → CameTo code units tasks r given e → Ends code units (submits_of (tasks ++ d ∷ [])) d.number (end_of end)
     end_came end (Some other) is (inputs, values, alone) =
@@ -177,7 +175,7 @@ module _ (code : Code) (units : ℕ) (tasks : List Done) (done : AreDone code un
     numbers_by k x (inr (last, it)) = subst (λ (y : Done). y.number ≡ y.rec.value.number) it (number ∙ ap (λ (s : Submit). s.rec.number) (sym same))
 
     -- the tasks with it are a generation's
-    pub done_with : AreDone code units (tasks ++ d ∷ [])
+    pub done_with : AreDone code limits (tasks ++ d ∷ [])
     done_with = record {
       submitted = are_submitted;
       numbers = λ k x at. numbers_by k x (last_or_before tasks d k x at);

@@ -1,5 +1,6 @@
 -- What contracts see of the yard that runs each task when it is submitted.
-use Rattle.std.specs.Prelude.{◌≡◌, ℕ, List, [], ◌∷◌, Some, option_map}
+use Rattle.std.specs.Prelude.{◌≡◌, List, [], ◌∷◌, Some, option_map}
+use Rattle.css_base.specs.declared.limits.Limits.{Limits}
 use Rattle.css_record.specs.declared.task_record.TaskRecord.{TaskRecord}
 use Rattle.css_vm.specs.Code.{Code}
 use Rattle.css_vm.specs.Soundness.{Spot, IsSound}
@@ -13,10 +14,10 @@ use Rattle.css_yard.specs.declared.standing.Standing.{Standing}
 use Rattle.css_yard.specs.Yards.{Phase, Open, Refused, Closed, State, with_record}
 use Rattle.css_yard.specs.Kept.{submits_of, stopping, first_stop, AreDone}
 
--- the code whose tasks it runs, the units of each task, and what it has come to
+-- the code whose tasks it runs, its limits, and what it has come to
 pub record OrderYard : Type 0 where
   pub code : Code
-  pub units : ℕ
+  pub limits : Limits
   pub state : State
 
 abbrev pub phase_of : coded.Phase → Phase
@@ -43,9 +44,9 @@ state_of tasks notes s = record {
 }
 
 -- the code is sound, and the tasks are those of a generation
-pub record IsOrdered (code : Code) (units : ℕ) (tasks : List Done) : Type 0 where
+pub record IsOrdered (code : Code) (limits : Limits) (tasks : List Done) : Type 0 where
   pub sound : (plans : List (List Spot)) × IsSound code plans
-  pub done : AreDone code units tasks
+  pub done : AreDone code limits tasks
 
 -- a Stopped names the first task that has stopped
 abbrev pub IsAnswer : List Done → YardAnswer → Type 0

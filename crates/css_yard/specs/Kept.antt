@@ -1,5 +1,6 @@
 -- What the yard keeps that runs each task when it is submitted.
 use Rattle.std.specs.Prelude.{◌≡◌, ◌<◌, ◌-◌, ℕ, List, [], ◌∷◌, map, Option, Some, None, slice_get}
+use Rattle.css_base.specs.declared.limits.Limits.{Limits}
 use Rattle.css_base.specs.declared.ending.Stop.{Stop}
 use Rattle.css_record.specs.declared.task_record.TaskRecord.{TaskRecord}
 use Rattle.css_record.specs.declared.version.VersionName.{VersionName}
@@ -31,7 +32,8 @@ first_number (d ∷ tasks) = d.number
 
 abbrev pub out_of : Option SharedEnd → (out : ℕ) → Option (List ℕ)
 out_of (Some (ends.Outs outs)) out = slice_get outs.items out
-out_of _ out = None
+out_of (Some (ends.Stopped stop line)) out = None
+out_of None out = None
 
 abbrev pub out_at : Option Done → (out : ℕ) → Option (List ℕ)
 out_at None out = None
@@ -44,7 +46,8 @@ value_at tasks given (names.Made task out) = out_at (slice_get tasks (task - fir
 
 abbrev pub with_value : Option (List ℕ) → Option (List (List ℕ)) → Option (List (List ℕ))
 with_value (Some value) (Some values) = Some (value ∷ values)
-with_value _ _ = None
+with_value (Some value) None = None
+with_value None values = None
 
 -- the values of versions, where all are there
 abbrev pub values_at : List Done → (given : List (List ℕ)) → List VersionName → Option (List (List ℕ))
@@ -59,7 +62,8 @@ stopping h = record { task = h.task; stop = h.stop; line = h.line }
 -- where a task stopped, else what is said of those behind it
 abbrev pub stop_or : (number : ℕ) → Option SharedEnd → Option Stopping → Option Stopping
 stop_or number (Some (ends.Stopped stop line)) others = Some (record { task = number; stop = stop; line = line })
-stop_or number _ others = others
+stop_or number (Some (ends.Outs outs)) others = others
+stop_or number None others = others
 
 abbrev pub first_stop : List Done → Option Stopping
 first_stop [] = None
@@ -83,10 +87,10 @@ CameTo code units tasks r given (Some end) =
 CameTo code units tasks r given None = AnyStopped tasks
 
 -- Tasks of a generation, in order: each came to its end, or wasn't run because one before it stopped.
-pub record AreDone (code : Code) (units : ℕ) (tasks : List Done) : Type 0 where
-  pub submitted : AreSubmitted code (submits_of tasks)
+pub record AreDone (code : Code) (limits : Limits) (tasks : List Done) : Type 0 where
+  pub submitted : AreSubmitted code limits (submits_of tasks)
   pub numbers : (k : ℕ) (d : Done) → slice_get tasks k ≡ Some d → d.number ≡ d.rec.value.number
   pub ends : (k : ℕ) (d : Done) (end : SharedEnd) → slice_get tasks k ≡ Some d → d.end ≡ Some end
-      → Ends code units (submits_of tasks) d.number (end_of end)
+      → Ends code limits.task_units (submits_of tasks) d.number (end_of end)
   pub held : (k : ℕ) (d : Done) → slice_get tasks k ≡ Some d → d.end ≡ None
       → (j : ℕ) × (other : Done) × (j < k) × (slice_get tasks j ≡ Some other) × HasStopped other

@@ -4,4 +4,3 @@ pub mod Submits
 pub mod Kept
 pub mod Standings
 pub mod InOrders
-pub mod Rows

@@ -1,10 +1,13 @@
 -- What a yard is in contracts.
-use Rattle.std.specs.Prelude.{◌≡◌, ◌<◌, ◌+◌, ℕ, Bool, true, false, List, [], ◌∷◌, ◌++◌, length, filter, Contains, Option, Some, None, slice_get}
+use Rattle.std.specs.Prelude.{◌≡◌, ◌<◌, ◌≤◌, ◌+◌, ℕ, Bool, true, false, List, [], ◌∷◌, ◌++◌, length, map, filter, Contains, Option, Some, None, slice_get}
+use Rattle.css_base.specs.declared.limits.Limits.{Limits}
 use Rattle.css_base.specs.declared.ending.Stop.{Stop}
 use Rattle.css_record.specs.declared.task_record.TaskRecord.{TaskRecord}
 use Rattle.css_record.specs.declared.version.VersionName.{VersionName}
 use Rattle.css_record.specs.declared.version.VersionName.TheVariants as names
 use Rattle.css_record.specs.Records.{FitsCode, uses}
+use Rattle.css_record.specs.Windows.{window}
+use Rattle.css_semantics.specs.Rules.{room_of}
 use Rattle.css_semantics.specs.Tasks.{Use, window_length, reads, writes}
 use Rattle.css_vm.specs.Code.{Routine, Shape, Code}
 use Rattle.css_task.specs.Alone.{TaskOf, IsPlainTask, Halted}
@@ -12,7 +15,8 @@ use Rattle.css_yard.specs.declared.answer.YardAnswer.{YardAnswer}
 use Rattle.css_yard.specs.declared.answer.YardAnswer.TheVariants as answers
 use Rattle.css_yard.specs.Values.{Submit, Ends, IsFirstStop}
 
--- What a yard has come to: it takes calls; a call was refused and it takes a settle alone; a settle was refused and it takes nothing.
+-- What a yard has come to: it takes calls; a call was refused and it takes one settle alone; behind that, or behind a settle that was
+-- refused, it takes nothing.
 pub data Phase : Type 0 where
   Open : Phase
   Refused : Phase
@@ -88,10 +92,12 @@ pub record AreInputs (r : TaskRecord) (reading : List Use) (a b : VersionName) (
 abbrev pub reading : List Use → List Use
 reading us = filter (λ u. reads u.direction) us
 
--- A record may be submitted: it is one of the code, so far of a plain task, has the next number, and its inputs are there and fit.
-pub record MaySubmit (code : Code) (submits : List Submit) (r : TaskRecord) (given : List (List ℕ)) : Type 0 where
+-- A record may be submitted: it is one of the code, so far of a plain task, its windows have room in the local store, it has the next
+-- number, and its inputs are there and fit.
+pub record MaySubmit (code : Code) (limits : Limits) (submits : List Submit) (r : TaskRecord) (given : List (List ℕ)) : Type 0 where
   pub fits : FitsCode code r
   pub plain : IsPlainTask code r
+  pub room : room_of (map window r.windows.items) ≤ limits.local_store
   pub few : length submits < 4096
   pub next : (last : Submit) (before : List Submit) → submits ≡ before ++ last ∷ [] → r.number ≡ last.rec.number + 1
   pub inputs : (shape : Shape) (routine : Routine) → TaskOf code r routine shape → (place : ℕ) (version : VersionName) (u : Use)
@@ -122,8 +128,14 @@ Submitted old r given new = new ≡ record old {
   is_used = true;
 }
 
+-- behind a settle that gives its answer, a yard of which no call was refused takes calls, and any other takes nothing
+abbrev pub phase_behind : Phase → Phase
+phase_behind Open = Open
+phase_behind Refused = Closed
+phase_behind Closed = Closed
+
 abbrev pub Settled : State → State → Type 0
-Settled old new = new ≡ record old { submits = []; phase = Open; is_used = true }
+Settled old new = new ≡ record old { submits = []; phase = phase_behind old.phase; is_used = true }
 
 -- a settle is taken by a yard that takes calls, and by one of which a call was refused
 abbrev pub TakesSettle : Phase → Type 0

@@ -20,7 +20,7 @@ pub struct Done {
 }
 
 /// A task that stops, and where.
-#[derive(Clone, Copy, PartialEq, Eq, Debug)]
+#[derive(Clone, Copy)]
 pub struct Halt {
     pub task: u64,
     pub stop: Stop,

@@ -25,7 +25,7 @@ use std::snapshot::Snapshot;
 #[derive(Drop)]
 pub struct InOrder<'a> {
     code: &'a Code,
-    units: u64,
+    limits: Limits,
     // Since the last settle.
     tasks: Vec<Done>,
     // Of all submits.
@@ -39,9 +39,9 @@ impl<'a> Model for InOrder<'a> {
 
     ghost Value = { OrderYard };
 
-    ghost view = { λ y. record { code = code_of y.code.now; units = y.units; state = state_of y.tasks.items y.notes.items y.standing } };
+    ghost view = { λ y. record { code = code_of y.code.now; limits = y.limits; state = state_of y.tasks.items y.notes.items y.standing } };
 
-    ghost invariant = { λ y. IsOrdered (code_of y.code.now) y.units y.tasks.items };
+    ghost invariant = { λ y. IsOrdered (code_of y.code.now) y.limits y.tasks.items };
 }
 
 impl<'a> InOrder<'a> {
@@ -51,12 +51,12 @@ impl<'a> InOrder<'a> {
         requires limits { IsInRange limits.now }
         ensures takes_no_memory { IsOk result }
         ensures code { IfOk result (λ y. y.code ≡ code_of code.now) }
-        ensures units { IfOk result (λ y. y.units ≡ limits.now.task_units) }
+        ensures limits { IfOk result (λ y. y.limits ≡ limits.now) }
         ensures state { IfOk result (λ y. y.state ≡ fresh) }
     {
         Ok(InOrder {
             code,
-            units: limits.task_units,
+            limits: *limits,
             tasks: Vec::new(alloc),
             notes: Vec::new(alloc),
             standing: Standing::fresh(),
@@ -86,21 +86,21 @@ fn enter(
 fn submit_behind(
     alloc: Global,
     code: &Code,
-    units: u64,
+    limits: &Limits,
     tasks: &mut Vec<Done>,
     notes: &mut Vec<Note>,
     rec: &TaskRecord,
     given: &Vec<Buffer>,
 ) -> Result<(), NoMemory>
     requires sound { (plans : List (List Spot)) × IsSound (code_of code.now) plans }
-    requires done { AreDone (code_of code.now) units tasks.old.items }
-    requires may { MaySubmit (code_of code.now) (submits_of tasks.old.items) rec.now given.now.items }
+    requires done { AreDone (code_of code.now) limits.now tasks.old.items }
+    requires may { MaySubmit (code_of code.now) limits.now (submits_of tasks.old.items) rec.now given.now.items }
     ensures tasks { OnOk result (submits_of tasks.new.items ≡ submits_of tasks.old.items ++ record { rec = rec.now; given = given.now.items } ∷ []) }
     ensures parts { OnOk result (parts_of notes.new.items ≡ with_record (parts_of notes.old.items) (is_empty (submits_of tasks.old.items)) rec.now) }
-    ensures done { AreDone (code_of code.now) units tasks.new.items }
+    ensures done { AreDone (code_of code.now) limits.now tasks.new.items }
     ensures unchanged { OnErr result ((tasks.new.items ≡ tasks.old.items) × (notes.new.items ≡ notes.old.items)) }
 {
-    let done = run_task(alloc, code, units, tasks.as_slice(), rec, given)?;
+    let done = run_task(alloc, code, limits, tasks.as_slice(), rec, given)?;
     let note = Note {
         is_first: Snapshot::of(&tasks.is_empty()),
         rec: Snapshot::of(rec),
@@ -154,7 +154,7 @@ fn settle_from(
 impl<'a> Yard for InOrder<'a> {
     ghost code = { λ y. y.code };
 
-    ghost units = { λ y. y.units };
+    ghost limits = { λ y. y.limits };
 
     ghost state = { λ y. y.state };
 
@@ -167,7 +167,7 @@ impl<'a> Yard for InOrder<'a> {
         let entered = submit_behind(
             alloc,
             self.code,
-            self.units,
+            &self.limits,
             &mut self.tasks,
             &mut self.notes,
             &rec,
@@ -208,7 +208,7 @@ impl<'a> Yard for InOrder<'a> {
         match settle_from(alloc, self.tasks.as_slice(), keep) {
             Ok(values) => {
                 self.tasks.clear();
-                self.standing = self.standing.opened();
+                self.standing = self.standing.settled();
                 Ok(values)
             }
             Err(answer) => {

@@ -8,8 +8,6 @@ mod laws;
 mod note;
 mod running;
 mod standing;
-#[cfg(test)]
-mod tests;
 mod yard;
 
 pub use answer::YardAnswer;

@@ -1,23 +1,23 @@
 //! How far a yard has come.
 ghost use Rattle.std.specs.Prelude.{◌≡◌, true, false, None};
-ghost use Rattle.css_yard.specs.Standings.{used, opened, refused_by, closed_by};
+ghost use Rattle.css_yard.specs.Standings.{used, settled, refused_by, closed_by};
 
 use crate::answer::YardAnswer;
 use crate::done::Halt;
 
 /// What a yard takes.
-#[derive(Clone, Copy, PartialEq, Eq, Debug)]
+#[derive(Clone, Copy)]
 pub enum Phase {
     /// Calls.
     Open,
-    /// A settle alone, because a call was refused.
+    /// One settle alone, because a call was refused.
     Refused,
-    /// Nothing, because a settle was refused.
+    /// Nothing, because a settle was refused, or a call before a settle.
     Closed,
 }
 
 /// What a yard takes, and what it has answered so far.
-#[derive(Clone, Copy, PartialEq, Eq, Debug)]
+#[derive(Clone, Copy)]
 pub struct Standing {
     pub phase: Phase,
     /// It has had a call.
@@ -52,11 +52,16 @@ impl Standing {
     }
 
     // After a settle that gave its answer.
-    pub(crate) fn opened(self) -> Standing
-        ensures { result ≡ opened self }
+    pub(crate) fn settled(self) -> Standing
+        ensures { result ≡ settled self }
     {
+        let phase = match self.phase {
+            Phase::Open => Phase::Open,
+            Phase::Refused => Phase::Closed,
+            Phase::Closed => Phase::Closed,
+        };
         Standing {
-            phase: Phase::Open,
+            phase,
             is_used: true,
             ..self
         }

@@ -1,27 +1,12 @@
 //! `cssrun`: compiles and runs block algorithms in integer C.
 #![tactic(auto)]
 
-mod answers;
-mod built;
-mod check;
-mod ending;
-mod erased_text;
-mod finish;
-mod laws;
-mod plain_top;
-mod run;
-mod run_text;
-#[cfg(test)]
-mod tests;
-mod top;
-
 use css_base::Words;
+use css_driver::top;
 use css_io::{FileShelf, OpenGate, StdSink, StdSource};
-pub use plain_top::plain_top;
 use std::process::ExitCode;
 use std::rt::Env;
 use std::{env, io};
-pub use top::top;
 
 fn main(rt: HostRuntime) -> ExitCode {
     let words = words_of(&rt);

@@ -1,5 +1,5 @@
 use Rattle.std.proofs.Common.{subst}
-use Rattle.css_lex.specs.Lines.{erased}
+use Rattle.css_lexemes.specs.Lines.{erased}
 use Rattle.css_small.specs.Texts.{Spells}
 use Rattle.css_small_code.specs.Marks.{HasNoDirectives}
 use Rattle.css_erasing.specs.Unmarked.{unmarked}

@@ -1,9 +1,9 @@
 use Rattle.std.proofs.Common.{◌+◌, ◌∙◌, ◌++◌, ap, ap₂, sym, subst, drop, length, arith}
 use Rattle.css_lex.specs.Refusals.{bad_bytes, unended_comments}
-use Rattle.css_lex.specs.Rising.{AreBetween}
+use Rattle.css_lexemes.specs.Rising.{AreBetween}
 use Rattle.css_lex.specs.Found.{IsFirst}
-use Rattle.css_lex.proofs.Erasing.{at_place, rest_at}
-use Rattle.css_lex.proofs.Places.{from_lower}
+use Rattle.css_lexemes.proofs.Erasing.{at_place, rest_at}
+use Rattle.css_lexemes.proofs.Places.{from_lower}
 use Rattle.css_lex.proofs.CommentBytes.{one_breaks, none_breaks}
 use Rattle.css_lex.proofs.bad_bytes.bad_place.Goals as goal
 

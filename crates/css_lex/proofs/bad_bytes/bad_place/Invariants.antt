@@ -1,5 +1,5 @@
 use Rattle.std.proofs.Common.{◌≡◌, length, drop}
-use Rattle.css_lex.specs.Rising.{AreBetween}
+use Rattle.css_lexemes.specs.Rising.{AreBetween}
 use Rattle.css_lex.specs.Refusals.{bad_bytes, unended_comments}
 use Rattle.css_lex.proofs.bad_bytes.bad_place.Given as goal
 

@@ -1,6 +1,6 @@
 use Rattle.std.proofs.Common.{◌≡◌, ◌-◌, ◌≤◌, length, drop}
 use Rattle.std.specs.Prelude.{false}
-use Rattle.css_lex.specs.Source.{splice_length}
+use Rattle.css_lexemes.specs.Source.{splice_length}
 use Rattle.css_lex.specs.CommentEnd.{plain_bytes, has_end}
 use Rattle.css_lex.proofs.bad_bytes.is_ended.Given as goal
 

@@ -1,6 +1,6 @@
 use Rattle.std.proofs.Common.{◌+◌, ◌∙◌, sym, ap, length, arith, length-drop}
-use Rattle.css_lex.specs.Source.{splice_length}
-use Rattle.css_lex.proofs.Rests.{rest_is}
+use Rattle.css_lexemes.specs.Source.{splice_length}
+use Rattle.css_lexemes.proofs.Rests.{rest_is}
 use Rattle.css_lex.proofs.CommentBytes.{splice_gone}
 use Rattle.css_lex.proofs.bad_bytes.next_byte.Goals as goal
 

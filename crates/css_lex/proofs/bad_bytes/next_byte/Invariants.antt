@@ -1,5 +1,5 @@
 use Rattle.std.proofs.Common.{◌≡◌, ◌-◌, ◌≤◌, length, drop}
-use Rattle.css_lex.specs.Source.{splice_length}
+use Rattle.css_lexemes.specs.Source.{splice_length}
 use Rattle.css_lex.specs.CommentEnd.{plain_bytes}
 use Rattle.css_lex.proofs.bad_bytes.next_byte.Given as goal
 

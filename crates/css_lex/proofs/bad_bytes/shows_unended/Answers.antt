@@ -2,7 +2,7 @@ use Rattle.std.proofs.Common.{◌∙◌, sym, ap, drop, ◌&&◌}
 use Rattle.std.proofs.lemmas.Bool.{eq-eqb}
 use Rattle.css_lex.specs.Refusals.{is_unended, begins_unended}
 use Rattle.css_lex.specs.CommentEnd.{plain_bytes}
-use Rattle.css_lex.proofs.Rests.{rest_is}
+use Rattle.css_lexemes.proofs.Rests.{rest_is}
 use Rattle.css_lex.proofs.CommentBytes.{plain_moved}
 use Rattle.css_lex.proofs.bad_bytes.shows_unended.Goals as goal
 

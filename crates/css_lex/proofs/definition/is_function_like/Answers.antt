@@ -1,9 +1,9 @@
 use Rattle.std.proofs.Common.{◌≡◌, ◌∙◌, ◌<◌, ap, length, arith, slice_index}
 use Rattle.std.specs.Prelude.{nat_eq}
 use Rattle.std.proofs.lemmas.List.{length-map, get_or-map}
-use Rattle.css_lex.specs.Longest.{pieces_of}
+use Rattle.css_lexemes.specs.Longest.{pieces_of}
 use Rattle.css_lex.specs.Reading.{behind_first}
-use Rattle.css_lex.proofs.Erasing.{at_place}
+use Rattle.css_lexemes.proofs.Erasing.{at_place}
 use Rattle.css_lex.proofs.DefinitionWords.{opens_at}
 use Rattle.css_lex.proofs.definition.is_function_like.Goals as goal
 

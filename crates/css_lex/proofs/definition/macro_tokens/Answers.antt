@@ -4,8 +4,8 @@ use Rattle.std.proofs.lemmas.List.{map_push}
 use Rattle.std.proofs.lemmas.List.Elements.{All-tail}
 use Rattle.css_base.specs.declared.token.Token.{Token}
 use Rattle.css_base.specs.Tokens.{lexeme, lexemes}
-use Rattle.css_lex.specs.Macros.{IsPlain}
-use Rattle.css_lex.specs.MacroTokens.{plain_kind, plain_kinds}
+use Rattle.css_macros.specs.Macros.{IsPlain}
+use Rattle.css_macros.specs.MacroTokens.{plain_kind, plain_kinds}
 use Rattle.css_lex.specs.HashLines.{kind_at}
 use Rattle.css_lex.proofs.definition.macro_tokens.Goals as goal
 

@@ -1,8 +1,8 @@
 use Rattle.std.proofs.Common.{◌≡◌, ◌++◌, All, length, map}
 use Rattle.std.specs.Vec.Iter.{into_iter_items, into_iter_len}
 use Rattle.css_base.specs.Tokens.{lexemes}
-use Rattle.css_lex.specs.Macros.{IsPlain}
-use Rattle.css_lex.specs.MacroTokens.{plain_kinds}
+use Rattle.css_macros.specs.Macros.{IsPlain}
+use Rattle.css_macros.specs.MacroTokens.{plain_kinds}
 use Rattle.css_lex.specs.HashLines.{kind_at}
 use Rattle.css_lex.proofs.definition.macro_tokens.Given as goal
 

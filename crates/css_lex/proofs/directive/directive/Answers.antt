@@ -1,7 +1,7 @@
 use Rattle.std.proofs.Common.{◌≡◌, ◌<◌, ◌∙◌, sym, ap, subst, length}
-use Rattle.css_lex.specs.declared.line_kind.LineKind.TheVariants as kinds
-use Rattle.css_lex.specs.Source.{bytes_of}
-use Rattle.css_lex.specs.LineKinds.{line_kind}
+use Rattle.css_lexemes.specs.declared.line_kind.LineKind.TheVariants as kinds
+use Rattle.css_lexemes.specs.Source.{bytes_of}
+use Rattle.css_lexemes.specs.LineKinds.{line_kind}
 use Rattle.css_lex.proofs.LineBreaches.{all_inside}
 use Rattle.css_lex.proofs.Hashes.{blanks, has_hash, hash_is}
 use Rattle.css_lex.proofs.directive.directive.Goals as goal

@@ -1,5 +1,5 @@
 use Rattle.std.proofs.Common.{◌≡◌, ◌-◌, ◌≤◌, length, drop}
-use Rattle.css_lex.specs.Longest.{pieces_of}
+use Rattle.css_lexemes.specs.Longest.{pieces_of}
 use Rattle.css_lex.specs.Reading.{solid, last_end}
 use Rattle.css_lex.proofs.LineEnds.{end_behind}
 use Rattle.css_lex.proofs.directive.line_end.Given as goal

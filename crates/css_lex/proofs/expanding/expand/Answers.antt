@@ -2,7 +2,7 @@ use Rattle.std.proofs.Common.{◌∙◌, sym, ap, List}
 use Rattle.std.specs.Vec.Iter.{into_iter_items}
 use Rattle.css_base.specs.declared.token.Token.{Token}
 use Rattle.css_base.specs.Tokens.{lexeme, lexemes}
-use Rattle.css_lex.specs.MacroTables.{table_of}
+use Rattle.css_macros.specs.MacroTables.{table_of}
 use Rattle.css_lex.specs.Refusals.{overruns}
 use Rattle.css_lex.specs.Expanded.{word_cost, word_costs}
 use Rattle.css_lex.proofs.WordByWord.{over_on}

@@ -1,6 +1,6 @@
 use Rattle.std.specs.Vec.Iter.{into_iter_items, into_iter_len}
 use Rattle.css_base.specs.Tokens.{lexemes}
-use Rattle.css_lex.specs.MacroTables.{table_of}
+use Rattle.css_macros.specs.MacroTables.{table_of}
 use Rattle.css_lex.proofs.WordByWord.{IsExpanding}
 use Rattle.css_lex.proofs.expanding.expand.Given as goal
 

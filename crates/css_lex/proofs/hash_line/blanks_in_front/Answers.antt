@@ -1,7 +1,7 @@
 use Rattle.std.proofs.Common.{length, ap, ◌∙◌, arith, length-drop}
 use Rattle.std.proofs.lemmas.List.Folds.{length-prefix_len}
 use Rattle.std.proofs.lemmas.List.Sums.{prefix_len-le-length}
-use Rattle.css_lex.specs.LineKinds.{is_blank}
+use Rattle.css_lexemes.specs.LineKinds.{is_blank}
 use Rattle.css_lex.proofs.hash_line.blanks_in_front.Goals as goal
 
 pub returns : goal.returns

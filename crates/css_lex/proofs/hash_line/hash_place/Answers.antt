@@ -1,7 +1,7 @@
 use Rattle.std.proofs.Common.{sym, ap, ◌∙◌}
 use Rattle.std.specs.List.{prefix_len}
-use Rattle.css_lex.specs.LineKinds.{is_blank, line_kind}
-use Rattle.css_lex.proofs.Erasing.{at_place}
+use Rattle.css_lexemes.specs.LineKinds.{is_blank, line_kind}
+use Rattle.css_lexemes.proofs.Erasing.{at_place}
 use Rattle.css_lex.proofs.Hashes.{hash_is}
 use Rattle.css_lex.proofs.hash_line.hash_place.Goals as goal
 

@@ -1,5 +1,5 @@
 use Rattle.std.proofs.Common.{◌≡◌, ◌≤◌, take}
-use Rattle.css_lex.specs.Lines.{newlines}
+use Rattle.css_lexemes.specs.Lines.{newlines}
 use Rattle.css_lex.proofs.lexing.count_newlines.Given as goal
 
 abbrev pub invariant-loop-byte : goal.invariant-loop-byte

@@ -1,12 +1,12 @@
 use Rattle.std.proofs.Common.{◌≡◌, ◌+◌, ◌++◌, ◌∷◌, [], ◌∙◌, sym, ap, subst, arith, List}
 use Rattle.std.proofs.lemmas.Result.{on_ok_weaker}
 use Rattle.std.proofs.lemmas.List.{map_push}
-use Rattle.css_lex.specs.declared.source.SourceByte.{SourceByte}
-use Rattle.css_lex.specs.Source.{bytes_of}
+use Rattle.css_lexemes.specs.declared.source.SourceByte.{SourceByte}
+use Rattle.css_lexemes.specs.Source.{bytes_of}
 use Rattle.css_lex.specs.Refusals.{line_breaches}
 use Rattle.css_lex.specs.Found.{IsFirst}
 use Rattle.css_lex.specs.LexState.{state_of, line_of, IsLexed}
-use Rattle.css_lex.proofs.Erasing.{at_place}
+use Rattle.css_lexemes.proofs.Erasing.{at_place}
 use Rattle.css_lex.proofs.TextRead.{IsReadTo, start_read, byte_read, line_read, line_broken, last_read, last_broken}
 use Rattle.css_lex.proofs.lexing.read_text.Goals as goal
 use Rattle.css_lex.proofs.lexing.read_text.Goals.{then-source-eq10+in_default, else-source-eq10+in_ok-push+in_ok-push-2}

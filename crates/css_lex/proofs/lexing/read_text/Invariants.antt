@@ -1,5 +1,5 @@
 use Rattle.std.proofs.Common.{◌≡◌}
-use Rattle.css_lex.specs.Source.{bytes_of}
+use Rattle.css_lexemes.specs.Source.{bytes_of}
 use Rattle.css_lex.proofs.TextRead.{IsReadTo}
 use Rattle.css_lex.proofs.lexing.read_text.Given as goal
 

@@ -1,8 +1,8 @@
 use Rattle.std.proofs.Common.{refl, length, arith, ap, length-drop}
 use Rattle.std.specs.Prelude.{slice_range}
-use Rattle.css_lex.proofs.Rests.{rest_is}
+use Rattle.css_lexemes.proofs.Rests.{rest_is}
 use Rattle.css_lex.proofs.WordsRead.{found_piece, piece_inside}
-use Rattle.css_lex.proofs.Within.{size_within}
+use Rattle.css_lexemes.proofs.Within.{size_within}
 use Rattle.css_lex.proofs.words.piece_from.Goals as goal
 
 pub overflow_add-result : goal.overflow_add-result

@@ -1,7 +1,7 @@
 use Rattle.std.proofs.Common.{◌∙◌, sym, ap, refl, option_map}
 use Rattle.std.specs.Prelude.{slice_range}
 use Rattle.css_base.specs.Tokens.{kind_of, lexeme}
-use Rattle.css_lex.specs.Values.{kind_of_lexeme}
+use Rattle.css_lexemes.specs.Values.{kind_of_lexeme}
 use Rattle.css_lex.proofs.Spelled.{no_word, one_word}
 use Rattle.css_lex.proofs.words.word_in.Goals as goal
 

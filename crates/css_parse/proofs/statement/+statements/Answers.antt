@@ -29,17 +29,14 @@ pub if_statement-returns-in_err-condition-clause-not_spelled : goal.if_statement
 if_statement-returns-in_err-condition-clause-not_spelled t c = λ why s rest r.
     no_if (c.in_err-condition.ensures.not_spelled (passed c.from_residual.result c.in_err-condition.field-0.0 c.from_residual.ensures.1 why)) r
 
-pub if_statement-returns-in_err-body-clause-not_spelled : goal.if_statement-returns-in_err-body-clause-not_spelled
-if_statement-returns-in_err-body-clause-not_spelled t c = λ why s rest r.
-    no_if_first c.in_ok-condition.ensures.ok
-    (c.in_err-body.ensures.not_spelled (passed c.from_residual-in_err-body.result c.in_err-body.field-0.0 c.from_residual-in_err-body.ensures.1 why)) r
-
 pub if_statement-returns-in_err-first-clause-not_spelled : goal.if_statement-returns-in_err-first-clause-not_spelled
-if_statement-returns-in_err-first-clause-not_spelled t c = λ why s rest r. passed_memory c.from_residual-in_err-first.result c.in_err-first.field-0.0 c.from_residual-in_err-first.ensures.1 why c.in_err-first.ensures.no_memory
+if_statement-returns-in_err-first-clause-not_spelled t c = λ why s rest r.
+    no_if_first c.in_ok-condition.ensures.ok
+    (c.in_err-first.ensures.not_spelled (passed c.from_residual-in_err-first.result c.in_err-first.field-0.0 c.from_residual-in_err-first.ensures.1 why)) r
 
 pub if_statement-returns-in_err-other-clause-not_spelled : goal.if_statement-returns-in_err-other-clause-not_spelled
 if_statement-returns-in_err-other-clause-not_spelled t c = λ why s rest r.
-    no_else c.in_ok-condition.ensures.ok c.in_ok-body.ensures.ok c.in-Some.ensures.found
+    no_else c.in_ok-condition.ensures.ok c.in_ok-first.ensures.ok c.in-Some.ensures.found
     (c.in_err-other.ensures.not_spelled (passed c.from_residual-in_err-other.result c.in_err-other.field-0.0 c.from_residual-in_err-other.ensures.1 why)) r
 
 -- ---- while
@@ -48,28 +45,28 @@ pub while_statement-returns-in_err-condition-clause-not_spelled : goal.while_sta
 while_statement-returns-in_err-condition-clause-not_spelled t c = λ why s rest r.
     no_while (c.in_err-condition.ensures.not_spelled (passed c.from_residual.result c.in_err-condition.field-0.0 c.from_residual.ensures.1 why)) r
 
-pub while_statement-returns-in_err-inner-clause-not_spelled : goal.while_statement-returns-in_err-inner-clause-not_spelled
-while_statement-returns-in_err-inner-clause-not_spelled t c = λ why s rest r.
+pub while_statement-returns-in_err-body-clause-not_spelled : goal.while_statement-returns-in_err-body-clause-not_spelled
+while_statement-returns-in_err-body-clause-not_spelled t c = λ why s rest r.
     no_while_body c.in_ok-condition.ensures.ok
-    (c.in_err-inner.ensures.not_spelled (passed c.from_residual-in_err-inner.result c.in_err-inner.field-0.0 c.from_residual-in_err-inner.ensures.1 why)) r
+    (c.in_err-body.ensures.not_spelled (passed c.from_residual-in_err-body.result c.in_err-body.field-0.0 c.from_residual-in_err-body.ensures.1 why)) r
 
 -- ---- do
 
-pub do_statement-returns-in_err-inner-clause-not_spelled : goal.do_statement-returns-in_err-inner-clause-not_spelled
-do_statement-returns-in_err-inner-clause-not_spelled t c = λ why s rest r.
-    no_do (c.in_err-inner.ensures.not_spelled (passed c.from_residual.result c.in_err-inner.field-0.0 c.from_residual.ensures.1 why)) r
+pub do_statement-returns-in_err-body-clause-not_spelled : goal.do_statement-returns-in_err-body-clause-not_spelled
+do_statement-returns-in_err-body-clause-not_spelled t c = λ why s rest r.
+    no_do (c.in_err-body.ensures.not_spelled (passed c.from_residual.result c.in_err-body.field-0.0 c.from_residual.ensures.1 why)) r
 
 pub do_statement-returns-in_default-clause-not_spelled : goal.do_statement-returns-in_default-clause-not_spelled
-do_statement-returns-in_default-clause-not_spelled t c = λ why s rest r. no_do_while c.in_ok-inner.ensures.ok c.in_default.ensures.none r
+do_statement-returns-in_default-clause-not_spelled t c = λ why s rest r. no_do_while c.in_ok-body.ensures.ok c.in_default.ensures.none r
 
 pub do_statement-returns-in_err-condition-clause-not_spelled : goal.do_statement-returns-in_err-condition-clause-not_spelled
 do_statement-returns-in_err-condition-clause-not_spelled t c = λ why s rest r.
-    no_do_condition c.in_ok-inner.ensures.ok c.in-Some.ensures.found
+    no_do_condition c.in_ok-body.ensures.ok c.in-Some.ensures.found
     (c.in_err-condition.ensures.not_spelled (passed c.from_residual-in_err-condition.result c.in_err-condition.field-0.0 c.from_residual-in_err-condition.ensures.1 why)) r
 
 pub do_statement-returns-in_default-after_mark-clause-not_spelled : goal.do_statement-returns-in_default-after_mark-clause-not_spelled
 do_statement-returns-in_default-after_mark-clause-not_spelled t c = λ why s rest r.
-    no_do_end c.in_ok-inner.ensures.ok c.in-Some.ensures.found c.in_ok-condition.ensures.ok c.in_default-after_mark.ensures.none r
+    no_do_end c.in_ok-body.ensures.ok c.in-Some.ensures.found c.in_ok-condition.ensures.ok c.in_default-after_mark.ensures.none r
 
 -- ---- for
 
@@ -77,10 +74,23 @@ pub for_statement-returns-in_err-head-clause-not_spelled : goal.for_statement-re
 for_statement-returns-in_err-head-clause-not_spelled t c = λ why s rest r.
     no_for (c.in_err-head.ensures.not_spelled (passed c.from_residual.result c.in_err-head.field-0.0 c.from_residual.ensures.1 why)) r
 
-pub for_statement-returns-in_err-inner-clause-not_spelled : goal.for_statement-returns-in_err-inner-clause-not_spelled
-for_statement-returns-in_err-inner-clause-not_spelled t c = λ why s rest r.
+pub for_statement-returns-in_err-body-clause-not_spelled : goal.for_statement-returns-in_err-body-clause-not_spelled
+for_statement-returns-in_err-body-clause-not_spelled t c = λ why s rest r.
     no_for_body c.in_ok-head.ensures.ok
-    (c.in_err-inner.ensures.not_spelled (passed c.from_residual-in_err-inner.result c.in_err-inner.field-0.0 c.from_residual-in_err-inner.ensures.1 why)) r
+    (c.in_err-body.ensures.not_spelled (passed c.from_residual-in_err-body.result c.in_err-body.field-0.0 c.from_residual-in_err-body.ensures.1 why)) r
+
+-- ---- on the heap
+
+pub boxed_statement-returns-clause-ok : goal.boxed_statement-returns-clause-ok
+boxed_statement-returns-clause-ok t c =
+    subst (λ s. ReadsStatement c.args.levels (lexemes c.args.tokens.now) (statement s) (lexemes c.in_ok-inner.rest.now)) (sym c.in_ok-body.ensures.ok) c.in_ok-inner.ensures.ok
+
+pub boxed_statement-returns-in_err-inner-clause-not_spelled : goal.boxed_statement-returns-in_err-inner-clause-not_spelled
+boxed_statement-returns-in_err-inner-clause-not_spelled t c = λ why s rest r.
+    c.in_err-inner.ensures.not_spelled (passed c.from_residual.result c.in_err-inner.field-0.0 c.from_residual.ensures.1 why) s rest r
+
+pub boxed_statement-returns-in_err-body-clause-not_spelled : goal.boxed_statement-returns-in_err-body-clause-not_spelled
+boxed_statement-returns-in_err-body-clause-not_spelled t c = λ why s rest r. passed_memory c.from_residual-in_err-body.result c.in_err-body.field-0.0 c.from_residual-in_err-body.ensures.1 why c.in_err-body.ensures.no_memory
 
 -- ---- statements
 
@@ -137,29 +147,26 @@ block-returns-clause-ok t c =
 pub if_statement-returns-in_default-clause-ok : goal.if_statement-returns-in_default-clause-ok
 if_statement-returns-in_default-clause-ok t c =
     reads.If (lexemes c.in_ok-condition.behind.now) c.in_ok-condition.ensures.ok
-    (subst (λ s. ReadsStatement c.args.levels (lexemes c.in_ok-condition.behind.now) (statement s) (lexemes c.in_ok-body.rest.now)) (sym c.in_ok-first.ensures.ok) c.in_ok-body.ensures.ok) c.in_default.ensures.none
+    c.in_ok-first.ensures.ok c.in_default.ensures.none
 
 pub if_statement-returns-clause-ok : goal.if_statement-returns-clause-ok
 if_statement-returns-clause-ok t c =
-    reads.IfElse (lexemes c.in_ok-condition.behind.now) (lexemes c.in_ok-body.rest.now) (lexemes c.in-Some.next.now) c.in_ok-condition.ensures.ok
-    (subst (λ s. ReadsStatement c.args.levels (lexemes c.in_ok-condition.behind.now) (statement s) (lexemes c.in_ok-body.rest.now)) (sym c.in_ok-first.ensures.ok) c.in_ok-body.ensures.ok) c.in-Some.ensures.found
-    (subst (λ s. ReadsStatement c.args.levels (lexemes c.in-Some.next.now) (statement s) (lexemes c.in_ok-other.rest.now)) (sym c.in_ok-boxed.ensures.ok) c.in_ok-other.ensures.ok)
+    reads.IfElse (lexemes c.in_ok-condition.behind.now) (lexemes c.in_ok-first.rest.now) (lexemes c.in-Some.next.now) c.in_ok-condition.ensures.ok
+    c.in_ok-first.ensures.ok c.in-Some.ensures.found c.in_ok-other.ensures.ok
 
 pub while_statement-returns-clause-ok : goal.while_statement-returns-clause-ok
 while_statement-returns-clause-ok t c =
-    reads.While (lexemes c.in_ok-condition.behind.now) c.in_ok-condition.ensures.ok
-    (subst (λ s. ReadsStatement c.args.levels (lexemes c.in_ok-condition.behind.now) (statement s) (lexemes c.in_ok-inner.rest.now)) (sym c.in_ok-body.ensures.ok) c.in_ok-inner.ensures.ok)
+    reads.While (lexemes c.in_ok-condition.behind.now) c.in_ok-condition.ensures.ok c.in_ok-body.ensures.ok
 
 pub do_statement-returns-clause-ok : goal.do_statement-returns-clause-ok
 do_statement-returns-clause-ok t c =
-    reads.Do (lexemes c.in_ok-inner.behind.now) (lexemes c.in-Some.next.now) (lexemes c.in_ok-condition.last.now)
-    (subst (λ s. ReadsStatement c.args.levels (lexemes c.args.tokens.now) (statement s) (lexemes c.in_ok-inner.behind.now)) (sym c.in_ok-body.ensures.ok) c.in_ok-inner.ensures.ok)
+    reads.Do (lexemes c.in_ok-body.behind.now) (lexemes c.in-Some.next.now) (lexemes c.in_ok-condition.last.now) c.in_ok-body.ensures.ok
     c.in-Some.ensures.found c.in_ok-condition.ensures.ok c.in-Some-after_mark.ensures.found
 
 pub for_statement-returns-clause-ok : goal.for_statement-returns-clause-ok
 for_statement-returns-clause-ok t c =
-    reads.For (lexemes c.in_ok-head.behind.now) c.in_ok-head.ensures.ok
-    (subst (λ s. ReadsStatement c.args.levels (lexemes c.in_ok-head.behind.now) (statement s) (lexemes c.in_ok-inner.rest.now)) (sym c.in_ok-body.ensures.ok) c.in_ok-inner.ensures.ok)
+    subst (λ s. ReadsForm forms.For c.args.levels c.args.line (lexemes c.args.tokens.now) s (lexemes c.in_ok-body.rest.now)) (sym c.into_loop.ensures)
+    (reads.For (lexemes c.in_ok-head.behind.now) c.in_ok-head.ensures.ok c.in_ok-body.ensures.ok)
 
 pub statement-returns-in_default-form_of-clause-ok : goal.statement-returns-in_default-form_of-clause-ok
 statement-returns-in_default-form_of-clause-ok t c =

@@ -8,6 +8,9 @@ use Rattle.css_parse.proofs.statement.+statements.Given as goal
 abbrev pub decreases-statement : goal.decreases-statement
 decreases-statement l = 5 * length l.tokens.now
 
+abbrev pub decreases-boxed_statement : goal.decreases-boxed_statement
+decreases-boxed_statement l = 5 * length l.tokens.now + 1
+
 abbrev pub decreases-entry : goal.decreases-entry
 decreases-entry l = 5 * length l.tokens.now + 1
 

@@ -34,8 +34,8 @@ run_body-requires-clause-fits c =
     ∙ ap (λ xs. arguments_by xs c.deref-2.result.now (map window c.deref-3.result.now)) c.deref.ensures.value
     ∙ ap (λ xs. arguments_by c.shape_of.result.now.args.items xs (map window c.deref-3.result.now)) c.deref-2.ensures.value
     ∙ ap (λ ws. arguments_by c.shape_of.result.now.args.items r.scalars.items (map window ws)) c.deref-3.ensures.value in
-    let machine_is = begins code r inputs c.requires.fits c.requires.plain c.requires.inputs c.in_ok-machine.machine c.deref-5.result.now (shape c.shape_of.result.now) same c.in_ok-machine.ensures are in
-    fits_machine code r inputs c.requires.fits c.requires.plain c.requires.inputs c.requires.sound.0 c.requires.sound.1 c.in_ok-machine.machine machine_is
+    let machine_is = begins code r inputs c.requires.fits c.requires.plain c.requires.inputs c.in_ok-machine.machine.state c.deref-5.result.now (shape c.shape_of.result.now) same c.in_ok-machine.ensures.state are in
+    fits_machine code r inputs c.requires.fits c.requires.plain c.requires.inputs c.requires.sound.0 c.requires.sound.1 c.in_ok-machine.machine.state machine_is
 
 pub run_body-requires-clause-quiet : goal.run_body-requires-clause-quiet
 run_body-requires-clause-quiet c =
@@ -48,8 +48,8 @@ run_body-requires-clause-quiet c =
     ∙ ap (λ xs. arguments_by xs c.deref-2.result.now (map window c.deref-3.result.now)) c.deref.ensures.value
     ∙ ap (λ xs. arguments_by c.shape_of.result.now.args.items xs (map window c.deref-3.result.now)) c.deref-2.ensures.value
     ∙ ap (λ ws. arguments_by c.shape_of.result.now.args.items r.scalars.items (map window ws)) c.deref-3.ensures.value in
-    let machine_is = begins code r inputs c.requires.fits c.requires.plain c.requires.inputs c.in_ok-machine.machine c.deref-5.result.now (shape c.shape_of.result.now) same c.in_ok-machine.ensures are in
-    quiet_machine code r inputs c.requires.fits c.requires.plain c.requires.inputs c.in_ok-machine.machine machine_is
+    let machine_is = begins code r inputs c.requires.fits c.requires.plain c.requires.inputs c.in_ok-machine.machine.state c.deref-5.result.now (shape c.shape_of.result.now) same c.in_ok-machine.ensures.state are in
+    quiet_machine code r inputs c.requires.fits c.requires.plain c.requires.inputs c.in_ok-machine.machine.state machine_is
 
 pub returns : goal.returns
 returns c =
@@ -62,13 +62,13 @@ returns c =
     ∙ ap (λ xs. arguments_by xs c.deref-2.result.now (map window c.deref-3.result.now)) c.deref.ensures.value
     ∙ ap (λ xs. arguments_by c.shape_of.result.now.args.items xs (map window c.deref-3.result.now)) c.deref-2.ensures.value
     ∙ ap (λ ws. arguments_by c.shape_of.result.now.args.items r.scalars.items (map window ws)) c.deref-3.ensures.value in
-    let machine_is = begins code r inputs c.requires.fits c.requires.plain c.requires.inputs c.in_ok-machine.machine c.deref-5.result.now (shape c.shape_of.result.now) same c.in_ok-machine.ensures are in
+    let machine_is = begins code r inputs c.requires.fits c.requires.plain c.requires.inputs c.in_ok-machine.machine.state c.deref-5.result.now (shape c.shape_of.result.now) same c.in_ok-machine.ensures.state are in
     let space_is : c.in_ok-space.space ≡ entry code r inputs c.requires.fits c.requires.plain c.requires.inputs =
     c.in_ok-space.ensures ∙ ap (λ ws. begun_with (regions_by (map window ws) inputs) r.stack_place) c.deref-4.ensures.value in
     let new = c.run_body.new in
     let stopped = rw c.in-Stopped.is at c.in_ok-end.ensures in
-    let arrived = comes code r inputs c.requires.fits c.requires.plain c.requires.inputs c.args.units c.in_ok-machine.machine c.in_ok-space.space (events.Stopped c.in-Stopped.stop c.in-Stopped.line) new.machine (with_units new.space new.units) machine_is space_is stopped in
-    stopped_alone code r inputs c.requires.fits c.requires.plain c.requires.inputs c.args.units new.machine (with_units new.space new.units) c.in-Stopped.stop c.in-Stopped.line arrived
+    let arrived = comes code r inputs c.requires.fits c.requires.plain c.requires.inputs c.args.units c.in_ok-machine.machine.state c.in_ok-space.space (events.Stopped c.in-Stopped.stop c.in-Stopped.line) new.machine.state (with_units new.space new.units) machine_is space_is stopped in
+    stopped_alone code r inputs c.requires.fits c.requires.plain c.requires.inputs c.args.units new.machine.state (with_units new.space new.units) c.in-Stopped.stop c.in-Stopped.line arrived
 
 pub returns-in-Returned : goal.returns-in-Returned
 returns-in-Returned c =
@@ -81,16 +81,16 @@ returns-in-Returned c =
     ∙ ap (λ xs. arguments_by xs c.deref-2.result.now (map window c.deref-3.result.now)) c.deref.ensures.value
     ∙ ap (λ xs. arguments_by c.shape_of.result.now.args.items xs (map window c.deref-3.result.now)) c.deref-2.ensures.value
     ∙ ap (λ ws. arguments_by c.shape_of.result.now.args.items r.scalars.items (map window ws)) c.deref-3.ensures.value in
-    let machine_is = begins code r inputs c.requires.fits c.requires.plain c.requires.inputs c.in_ok-machine.machine c.deref-5.result.now (shape c.shape_of.result.now) same c.in_ok-machine.ensures are in
+    let machine_is = begins code r inputs c.requires.fits c.requires.plain c.requires.inputs c.in_ok-machine.machine.state c.deref-5.result.now (shape c.shape_of.result.now) same c.in_ok-machine.ensures.state are in
     let space_is : c.in_ok-space.space ≡ entry code r inputs c.requires.fits c.requires.plain c.requires.inputs =
     c.in_ok-space.ensures ∙ ap (λ ws. begun_with (regions_by (map window ws) inputs) r.stack_place) c.deref-4.ensures.value in
     let new = c.run_body.new in
     let ended = rw c.in-Returned.is at c.in_ok-end.ensures in
-    let arrived = comes code r inputs c.requires.fits c.requires.plain c.requires.inputs c.args.units c.in_ok-machine.machine c.in_ok-space.space (events.Ended ended.0.0 c.in-Returned.line) new.machine (with_units new.space new.units) machine_is space_is ended.0.1 in
+    let arrived = comes code r inputs c.requires.fits c.requires.plain c.requires.inputs c.args.units c.in_ok-machine.machine.state c.in_ok-space.space (events.Ended ended.0.0 c.in-Returned.line) new.machine.state (with_units new.space new.units) machine_is space_is ended.0.1 in
     let frame : c.function_of-function.result.now.frame ≡ c.requires.fits.routine.frame =
     sym (ap (λ (f : Routine). f.frame) (same_routine code r inputs c.requires.fits c.requires.plain c.requires.inputs (routine c.function_of-function.result.now) c.function_of-function.ensures)) in
     let refusal = subst (λ (n : ℕ). IsRefusal (space_reply new.space (Leave (place_of new.space) n)) c.in-Err.stop) frame c.in-Err.ensures.refuses in
-    left_stopped code r inputs c.requires.fits c.requires.plain c.requires.inputs c.args.units new.machine new.space new.units ended.0.0 c.in-Returned.line arrived ended.1 ended.2 c.in-Err.stop refusal
+    left_stopped code r inputs c.requires.fits c.requires.plain c.requires.inputs c.args.units new.machine.state new.space new.units ended.0.0 c.in-Returned.line arrived ended.1 ended.2 c.in-Err.stop refusal
 
 pub returns-in-Ok : goal.returns-in-Ok
 returns-in-Ok c =
@@ -103,12 +103,12 @@ returns-in-Ok c =
     ∙ ap (λ xs. arguments_by xs c.deref-2.result.now (map window c.deref-3.result.now)) c.deref.ensures.value
     ∙ ap (λ xs. arguments_by c.shape_of.result.now.args.items xs (map window c.deref-3.result.now)) c.deref-2.ensures.value
     ∙ ap (λ ws. arguments_by c.shape_of.result.now.args.items r.scalars.items (map window ws)) c.deref-3.ensures.value in
-    let machine_is = begins code r inputs c.requires.fits c.requires.plain c.requires.inputs c.in_ok-machine.machine c.deref-5.result.now (shape c.shape_of.result.now) same c.in_ok-machine.ensures are in
+    let machine_is = begins code r inputs c.requires.fits c.requires.plain c.requires.inputs c.in_ok-machine.machine.state c.deref-5.result.now (shape c.shape_of.result.now) same c.in_ok-machine.ensures.state are in
     let space_is : c.in_ok-space.space ≡ entry code r inputs c.requires.fits c.requires.plain c.requires.inputs =
     c.in_ok-space.ensures ∙ ap (λ ws. begun_with (regions_by (map window ws) inputs) r.stack_place) c.deref-4.ensures.value in
     let new = c.run_body.new in
     let ended = rw c.in-Returned.is at c.in_ok-end.ensures in
-    let arrived = comes code r inputs c.requires.fits c.requires.plain c.requires.inputs c.args.units c.in_ok-machine.machine c.in_ok-space.space (events.Ended ended.0.0 c.in-Returned.line) new.machine (with_units new.space new.units) machine_is space_is ended.0.1 in
+    let arrived = comes code r inputs c.requires.fits c.requires.plain c.requires.inputs c.args.units c.in_ok-machine.machine.state c.in_ok-space.space (events.Ended ended.0.0 c.in-Returned.line) new.machine.state (with_units new.space new.units) machine_is space_is ended.0.1 in
     let frame : c.function_of-function.result.now.frame ≡ c.requires.fits.routine.frame =
     sym (ap (λ (f : Routine). f.frame) (same_routine code r inputs c.requires.fits c.requires.plain c.requires.inputs (routine c.function_of-function.result.now) c.function_of-function.ensures)) in
     let said = c.in-Ok.ensures.says in
@@ -119,4 +119,4 @@ returns-in-Ok c =
     let above : m.place - 16384 ≤ task_place m = omega (arith, made.stack) in
     let clear = all_clear (m.place - 16384) m.place (task_place m) m.place m.regions above (omega arith) made.parted.0 in
     subst (λ outs. IsAlone code r inputs c.args.units (Outs outs)) (sym made.bytes)
-    (left_outs code r inputs c.requires.fits c.requires.plain c.requires.inputs c.args.units new.machine new.space new.units ended.0.0 c.in-Returned.line arrived ended.1 ended.2 said.0 says m memory made.parted.1 clear)
+    (left_outs code r inputs c.requires.fits c.requires.plain c.requires.inputs c.args.units new.machine.state new.space new.units ended.0.0 c.in-Returned.line arrived ended.1 ended.2 said.0 says m memory made.parted.1 clear)

@@ -1,6 +1,6 @@
 use Rattle.std.proofs.Common.{◌≡◌, ◌++◌, drop, map}
 use Rattle.css_record.specs.Windows.{window}
-use Rattle.css_task.specs.Parts.{region}
+use Rattle.css_task.specs.KeptMemory.{region}
 use Rattle.css_task.specs.Regions.{regions_by}
 use Rattle.css_task.proofs.task_space.parts_of.Given as goal
 

@@ -5,7 +5,7 @@ use Rattle.css_yard.specs.declared.done.Done.{Done}
 use Rattle.css_yard.specs.Yards.{is_empty, with_record}
 use Rattle.css_yard.specs.Kept.{submits_of}
 use Rattle.css_yard.specs.InOrders.{parts_of}
-use Rattle.css_yard.proofs.Parts.{parts_more}
+use Rattle.css_yard.proofs.RecordParts.{parts_more}
 use Rattle.css_yard.proofs.in_order.submit_behind.Goals as goal
 
 none_submitted : (n : ℕ) (tasks : List Done) → n ≡ length tasks → (n == 0) ≡ is_empty (submits_of tasks)

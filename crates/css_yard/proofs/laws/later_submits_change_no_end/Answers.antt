@@ -8,5 +8,5 @@ use Rattle.std.proofs.Common.{◌++◌}
 pub returns : goal.returns
 returns c = record {
   kept = λ code units submits more number end ends. ends_later code units submits (submits ++ more) (λ s has. Contains-append_left submits more s has) ends;
-  none_new = λ code units submits more s end are has ends. ends_before code units submits more are ends s has refl;
+  none_new = λ code limits units submits more s end are has ends. ends_before code limits units submits more are ends s has refl;
 }

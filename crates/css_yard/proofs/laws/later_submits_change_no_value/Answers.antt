@@ -7,5 +7,5 @@ use Rattle.css_yard.proofs.laws.later_submits_change_no_value.Goals as goal
 pub returns : goal.returns
 returns c = record {
   kept = λ code units submits more given version bytes value. value_later code units submits (submits ++ more) (λ s has. Contains-append_left submits more s has) value;
-  none_new = λ code units submits more s given out bytes are has value. value_before code units submits more are value (s, has, refl);
+  none_new = λ code limits units submits more s given out bytes are has value. value_before code limits units submits more are value (s, has, refl);
 }

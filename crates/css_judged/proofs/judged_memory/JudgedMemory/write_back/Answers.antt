@@ -1,6 +1,6 @@
 use Rattle.std.proofs.Common.{ap, ◌∙◌}
 use Rattle.css_semantics.specs.Memory.{Memory}
-use Rattle.css_semantics.specs.Rows.{with_window}
+use Rattle.css_semantics.specs.WithWindow.{with_window}
 use Rattle.css_record.specs.Windows.{window}
 use Rattle.css_judged.specs.Judged.{Judged, erased}
 use Rattle.css_judged.proofs.MainReplies.{rows_do, rows_main}

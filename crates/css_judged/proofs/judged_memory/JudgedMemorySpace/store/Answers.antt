@@ -2,7 +2,7 @@ use Rattle.std.proofs.Common.{◌≡◌, length, ap, sym, ◌∙◌}
 use Rattle.std.proofs.lemmas.Result.{err_from_is_err_and}
 use Rattle.css_semantics.specs.Memory.{Memory, big_endian_bytes}
 use Rattle.css_vm.specs.Spaces.{bytes_of}
-use Rattle.css_mem.proofs.Memories.{length-big_endian_bytes}
+use Rattle.css_vm.proofs.Bytes.{length-big_endian_bytes}
 use Rattle.css_judged.specs.Judged.{Judged, erased}
 use Rattle.css_judged.proofs.MainReplies.{stored_main}
 use Rattle.css_judged.proofs.FarStores.{far_reply, far_after}

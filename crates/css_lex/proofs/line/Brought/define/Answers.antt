@@ -1,9 +1,9 @@
 use Rattle.std.proofs.Common.{◌≡◌, ◌∙◌, sym, ap, ap₂, subst, refl, length, map, All, Option, Some}
 use Rattle.css_lex.specs.declared.breach.Breach.{Breach}
-use Rattle.css_lex.specs.LineKinds.{line_kind}
-use Rattle.css_lex.specs.Macros.{IsPlain, may_define}
-use Rattle.css_lex.specs.MacroTables.{table_of}
-use Rattle.css_lex.specs.MacroTokens.{plain_kinds}
+use Rattle.css_lexemes.specs.LineKinds.{line_kind}
+use Rattle.css_macros.specs.Macros.{IsPlain, may_define}
+use Rattle.css_macros.specs.MacroTables.{table_of}
+use Rattle.css_macros.specs.MacroTokens.{plain_kinds}
 use Rattle.css_lex.specs.Refusals.{line_breaches}
 use Rattle.css_lex.specs.Found.{IsFound, least_of}
 use Rattle.css_lex.specs.HashLines.{front_name, behind_name, kind_at}

@@ -1,7 +1,7 @@
 use Rattle.std.proofs.Common.{◌∙◌, sym, ap, subst, Option}
 use Rattle.std.proofs.lemmas.Result.{on_ok_weaker}
 use Rattle.css_lex.specs.declared.breach.Breach.{Breach}
-use Rattle.css_lex.specs.LineKinds.{line_kind}
+use Rattle.css_lexemes.specs.LineKinds.{line_kind}
 use Rattle.css_lex.specs.Refusals.{line_breaches}
 use Rattle.css_lex.specs.Found.{IsFound}
 use Rattle.css_lex.specs.LexState.{state_of, line_of, passes}

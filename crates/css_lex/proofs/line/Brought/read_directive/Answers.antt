@@ -2,8 +2,8 @@ use Rattle.std.proofs.Common.{◌≡◌, ◌+◌, ◌++◌, ◌∷◌, ◌∙◌
 use Rattle.std.proofs.lemmas.List.{map_push}
 use Rattle.css_base.specs.Tokens.{Lexeme, lexeme, lexemes}
 use Rattle.css_lex.specs.declared.breach.Breach.{Breach}
-use Rattle.css_lex.specs.LineKinds.{line_kind}
-use Rattle.css_lex.specs.MacroTables.{table_of}
+use Rattle.css_lexemes.specs.LineKinds.{line_kind}
+use Rattle.css_macros.specs.MacroTables.{table_of}
 use Rattle.css_lex.specs.Spelling.{joined}
 use Rattle.css_lex.specs.Refusals.{overruns, line_breaches}
 use Rattle.css_lex.specs.Expanded.{expanded, word_costs, tokens_among, names_among, IsHead}

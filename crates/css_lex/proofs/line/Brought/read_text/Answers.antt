@@ -2,8 +2,8 @@ use Rattle.std.proofs.Common.{◌+◌, ◌++◌, ◌∙◌, sym, ap, subst, refl
 use Rattle.std.proofs.lemmas.Result.{on_ok_weaker}
 use Rattle.css_base.specs.Tokens.{Lexeme, lexemes}
 use Rattle.css_lex.specs.declared.breach.Breach.{Breach}
-use Rattle.css_lex.specs.LineKinds.{line_kind}
-use Rattle.css_lex.specs.MacroTables.{table_of}
+use Rattle.css_lexemes.specs.LineKinds.{line_kind}
+use Rattle.css_macros.specs.MacroTables.{table_of}
 use Rattle.css_lex.specs.Refusals.{overruns, line_breaches}
 use Rattle.css_lex.specs.Expanded.{expanded, word_costs, tokens_among, names_among, IsHead}
 use Rattle.css_lex.specs.Found.{IsFound, least_of}

@@ -1,8 +1,8 @@
 use Rattle.std.proofs.Common.{◌≡◌, ◌∙◌, sym, ap, ap₂, subst, refl, length, Option, Some}
 use Rattle.css_lex.specs.declared.breach.Breach.{Breach}
-use Rattle.css_lex.specs.LineKinds.{line_kind}
-use Rattle.css_lex.specs.Macros.{undefined}
-use Rattle.css_lex.specs.MacroTables.{table_of}
+use Rattle.css_lexemes.specs.LineKinds.{line_kind}
+use Rattle.css_macros.specs.Macros.{undefined}
+use Rattle.css_macros.specs.MacroTables.{table_of}
 use Rattle.css_lex.specs.Refusals.{line_breaches}
 use Rattle.css_lex.specs.Found.{IsFound, least_of}
 use Rattle.css_lex.specs.HashLines.{only_name}

@@ -1,12 +1,13 @@
 use Rattle.css_vm.specs.Code.{code_of}
 use Rattle.css_main_side.specs.Sides.{side}
 use Rattle.css_main_side.specs.declared.ran.Ran.TheVariants.{NoMemory}
-use Rattle.css_main_side.proofs.Parts.{goes_nowhere, goes_further, goes_to_end, gives_up}
+use Rattle.css_main_side.proofs.RunParts.{goes_nowhere, goes_further, goes_to_end, gives_up}
 use Rattle.css_main_side.proofs.main_run.Main.run_on.Goals as goal
 
 pub loop-init : goal.loop-init
 loop-init g c = record {
   stands = c.requires.stands;
+  due = c.requires.due;
   fits = c.requires.fits;
   stacked = c.requires.stacked;
   ready = c.requires.ready;
@@ -21,6 +22,7 @@ returns-in-Some-clause-ends g c =
 pub loop-preserved : goal.loop-preserved
 loop-preserved g c = record {
   stands = c.in_default.ensures.stands;
+  due = c.in_default.ensures.due;
   fits = c.in_default.ensures.fits;
   stacked = c.in_default.ensures.stacked;
   ready = c.in_default.ensures.ready;

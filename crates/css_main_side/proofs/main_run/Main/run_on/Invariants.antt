@@ -1,5 +1,7 @@
+use Rattle.std.proofs.Common.{◌≡◌}
 use Rattle.css_io.specs.Changes.{change}
 use Rattle.css_judged.specs.Judged.{main_place}
+use Rattle.css_vm.specs.declared.machine.Due.TheVariants as due
 use Rattle.css_vm.specs.Code.{code_of}
 use Rattle.css_vm.specs.Events.{IsStacked}
 use Rattle.css_vm.specs.Soundness.{Fits}
@@ -10,8 +12,9 @@ use Rattle.css_main_side.proofs.main_run.Main.run_on.Given as goal
 abbrev pub invariant-loop : goal.invariant-loop
 invariant-loop g l = record {
   stands : Stands l.limits (side l.self);
-  fits : Fits (code_of l.code) l.self.machine;
-  stacked : IsStacked (code_of l.code) (main_place l.self.memory) l.self.machine;
-  ready : IsReady (code_of l.code) l.limits.task_units (g.Y.Yard.code l.yard) (g.Y.Yard.units l.yard) (g.Y.Yard.state l.yard);
+  due : l.self.machine.due ≡ due.Run;
+  fits : Fits (code_of l.code) l.self.machine.state;
+  stacked : IsStacked (code_of l.code) (main_place l.self.memory) l.self.machine.state;
+  ready : IsReady (code_of l.code) l.limits l.self.called (g.Y.Yard.code l.yard) (g.Y.Yard.limits l.yard) (g.Y.Yard.state l.yard);
   goes_on : GoesOn l.limits (code_of l.code) (side l.fn.self) (side l.self) l.fn.pending l.pending (change g.O.Sink.written g.O.Sink.faults l.fn.out l.out);
 }

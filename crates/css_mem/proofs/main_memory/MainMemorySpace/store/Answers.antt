@@ -2,7 +2,8 @@ use Rattle.std.proofs.Common.{◌≡◌, ◌+◌, true, length, ap, ◌∙◌, a
 use Rattle.std.proofs.lemmas.List.{with_items_is}
 use Rattle.css_semantics.specs.Memory.{is_live, big_endian_bytes, overlaid}
 use Rattle.css_vm.specs.Spaces.{bytes_of}
-use Rattle.css_mem.proofs.Memories.{length-big_endian_bytes, stored_in}
+use Rattle.css_vm.proofs.Bytes.{length-big_endian_bytes}
+use Rattle.css_mem.proofs.Memories.{stored_in}
 use Rattle.css_mem.proofs.main_memory.MainMemorySpace.store.Goals as goal
 
 pub returns-clause-learns : goal.returns-clause-learns

@@ -1,6 +1,6 @@
 use Rattle.std.proofs.Common.{◌<◌, length, slice_get, ap, sym, ◌∙◌, arith}
 use Rattle.css_semantics.specs.TaskSpaces.{TaskState, holds}
-use Rattle.css_task.specs.Parts.{region}
+use Rattle.css_task.specs.KeptMemory.{region}
 use Rattle.css_task.proofs.Spaces.{any_is, passes, part_at}
 use Rattle.css_task.proofs.task_space.TaskSpace.part_with.Goals as goal
 

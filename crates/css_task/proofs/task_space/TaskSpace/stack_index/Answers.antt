@@ -1,7 +1,7 @@
 use Rattle.std.proofs.Common.{◌≡◌, ◌-◌, length, map, take, drop, ap, sym, ◌∙◌, arith}
 use Rattle.std.proofs.lemmas.List.{take_all, length-drop}
 use Rattle.css_semantics.specs.TaskSpaces.{TaskState}
-use Rattle.css_task.specs.Parts.{region}
+use Rattle.css_task.specs.KeptMemory.{region}
 use Rattle.css_task.proofs.Spaces.{found}
 use Rattle.css_task.proofs.task_space.TaskSpace.stack_index.Goals as goal
 

@@ -3,7 +3,7 @@ use Rattle.css_semantics.specs.Memory.{big_endian}
 use Rattle.css_semantics.specs.Alone.{Region}
 use Rattle.css_semantics.specs.TaskSpaces.{TaskState, holds}
 use Rattle.css_vm.specs.Spaces.{bytes_of}
-use Rattle.css_task.specs.Parts.{region}
+use Rattle.css_task.specs.KeptMemory.{region}
 use Rattle.css_task.proofs.Spaces.{loads_from_stack, loads_from_region, part_is, part_within}
 use Rattle.css_task.proofs.task_space.TaskSpaceSpace.load.Goals as goal
 

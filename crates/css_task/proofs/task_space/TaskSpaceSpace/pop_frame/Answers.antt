@@ -1,7 +1,7 @@
 use Rattle.std.proofs.Common.{◌≡◌, ◌<◌, length, map, get_or, ap, sym, ◌∙◌, arith, if◌then◌else◌}
 use Rattle.std.proofs.lemmas.List.{get_or_read}
 use Rattle.css_semantics.specs.Dialogue.{Says, Fails}
-use Rattle.css_task.specs.Parts.{region}
+use Rattle.css_task.specs.KeptMemory.{region}
 use Rattle.css_task.proofs.Spaces.{leaves, left_is, after_leaving}
 use Rattle.css_task.proofs.task_space.TaskSpaceSpace.pop_frame.Goals as goal
 

@@ -1,6 +1,6 @@
 use Rattle.std.proofs.Common.{◌-◌, map, sym, ◌∙◌, arith}
 use Rattle.std.specs.List.{length_refill}
-use Rattle.css_task.specs.Parts.{region}
+use Rattle.css_task.specs.KeptMemory.{region}
 use Rattle.css_task.proofs.Spaces.{place_now, enters, too_many_bytes, too_many_calls, refused, after_entry}
 use Rattle.css_task.proofs.task_space.TaskSpaceSpace.push_frame.Goals as goal
 use Rattle.css_task.proofs.task_space.TaskSpaceSpace.push_frame.Goals.{then-bytes-self-via-then-bytes-self, then-bytes-self-via-else-bytes-self+then-self-eq0}

@@ -5,9 +5,9 @@ use Rattle.css_semantics.specs.Alone.{Region}
 use Rattle.css_semantics.specs.TaskSpaces.{TaskState, holds}
 use Rattle.css_semantics.proofs.StackPlaces.{length-overlaid}
 use Rattle.css_semantics.proofs.TaskKept.{kept}
-use Rattle.css_mem.proofs.Memories.{length-big_endian_bytes}
+use Rattle.css_vm.proofs.Bytes.{length-big_endian_bytes}
 use Rattle.css_vm.specs.Spaces.{bytes_of}
-use Rattle.css_task.specs.Parts.{region, IsSpace}
+use Rattle.css_task.specs.KeptMemory.{region, IsSpace}
 use Rattle.css_task.proofs.Spaces.{stores_in_stack, stores_in_region, part_is, part_within, after_region}
 use Rattle.css_task.proofs.task_space.TaskSpaceSpace.store.Goals as goal
 

@@ -1,0 +1,18 @@
+use Rattle.std.proofs.Common.{◌≡◌, ◌≤◌}
+use Rattle.css_semantics.specs.Memory.{stack_place}
+use Rattle.css_semantics.specs.Units.{with_units}
+use Rattle.css_vm.specs.declared.machine.Due.TheVariants as due
+use Rattle.css_vm.specs.Code.{code_of}
+use Rattle.css_vm.specs.Soundness.{Fits}
+use Rattle.css_vm.specs.Events.{IsStacked}
+use Rattle.css_io.specs.Changes.{change}
+use Rattle.css_driver.specs.Running.{GoesOn}
+use Rattle.css_driver.proofs.run.run_on.Given as goal
+
+abbrev pub invariant-loop : goal.invariant-loop
+invariant-loop g l = record {
+  due : l.machine.due ≡ due.Run;
+  fits : Fits (code_of l.code) l.machine.state;
+  stacked : IsStacked (code_of l.code) (stack_place l.space) l.machine.state;
+  goes_on : GoesOn (code_of l.code) l.fn.machine.state (with_units l.fn.space l.fn.units) l.machine.state (with_units l.space l.units) l.fn.pending l.pending (change g.O.Sink.written g.O.Sink.faults l.fn.out l.out);
+}

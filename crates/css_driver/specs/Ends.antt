@@ -1,0 +1,77 @@
+-- How a call of the program ends, for its sinks.
+use Rattle.std.specs.Prelude.{◌≡◌, ℕ, ◌⊎◌, List, ◌++◌, Option, IfSome}
+use Rattle.css_io.specs.Outside.{Rose}
+use Rattle.css_io.specs.Changes.{Change, HasFailed, Got, GotPrefix}
+use Rattle.css_words.specs.declared.request.Request.{Request}
+use Rattle.css_driver.specs.Request.{Offer, Asks}
+use Rattle.css_driver.specs.Answer.{Answer, IsAnswer, no_memory, read_fault}
+
+-- got a prefix of these bytes, and then exactly the line
+abbrev pub GotPrefixAnd : Change → List ℕ → List ℕ → Type 0
+GotPrefixAnd c bytes line = (front : List ℕ) × (rest : List ℕ) × (bytes ≡ front ++ rest) × Got c (front ++ line)
+
+-- got a prefix of these bytes, and then a prefix of the line
+abbrev pub GotPrefixAndPrefix : Change → List ℕ → List ℕ → Type 0
+GotPrefixAndPrefix c bytes line = (head : List ℕ) × (tail : List ℕ) × (line ≡ head ++ tail) × GotPrefixAnd c bytes head
+
+-- The call answers one of the answers whole, or it is cut short by a sink (7), or by want of memory (8). Cut short, each sink
+-- got a prefix of what the answer has, and at want of memory the report then the line for it.
+pub data Ends (IsOne : Answer → Type 0) (out report : Change) (status : ℕ) : Type 0 where
+  Whole : (a : Answer) → IsOne a → status ≡ a.status → Got out a.out → Got report a.report → Ends IsOne out report status
+  Cut : status ≡ 7 → HasFailed out ⊎ HasFailed report
+      → ((a : Answer) → IsOne a → GotPrefix out a.out × GotPrefixAndPrefix report a.report no_memory) → Ends IsOne out report status
+  Starved : status ≡ 8 → ((a : Answer) → IsOne a → GotPrefix out a.out × GotPrefixAnd report a.report no_memory)
+      → Ends IsOne out report status
+
+-- Writing a line ends a call with a status, or with 7 where the sink fails.
+pub data Finishes (c : Change) (line : List ℕ) (status result : ℕ) : Type 0 where
+  Written : result ≡ status → Got c line → Finishes c line status result
+  CutLine : result ≡ 7 → HasFailed c → GotPrefix c line → Finishes c line status result
+
+-- A text is that of the file that the words name, as far as the shelf tells it.
+abbrev pub IsText : Offer → List (List ℕ) → (List ℕ → Option (List ℕ)) → List ℕ → Type 0
+IsText offer words told text = (request : Request) → Asks offer words request → IfSome (told request.file) (λ bytes. text ≡ bytes)
+
+-- The shelf's count for the file rose.
+pub record ShelfFailed (offer : Offer) (words : List (List ℕ)) (before after : List ℕ → ℕ) : Type 0 where
+  pub request : Request
+  pub asks : Asks offer words request
+  pub rose : Rose (before request.file) (after request.file)
+
+-- All ways in which a call of the program ends.
+pub data CallEnds (offer : Offer) (words : List (List ℕ)) (told : List ℕ → Option (List ℕ)) (before after : List ℕ → ℕ) (out report : Change) (status : ℕ) : Type 0 where
+  Answered : (text : List ℕ) → IsText offer words told text → Ends (IsAnswer offer words text) out report status → CallEnds offer words told before after out report status
+  Unread : ShelfFailed offer words before after → out.after ≡ out.before → Finishes report read_fault 6 status → CallEnds offer words told before after out report status
+  Unheard : out.after ≡ out.before → Finishes report no_memory 8 status → CallEnds offer words told before after out report status
+
+-- Cut short by a sink: each sink got a prefix of what the answer has, the report perhaps then a prefix of the line for want of
+-- memory; or the file couldn't be read, and the report got a prefix of the line for that; or there was no memory to read the words,
+-- and the report got a prefix of the line for that.
+abbrev pub IsCutShort : Offer → List (List ℕ) → (List ℕ → Option (List ℕ)) → (List ℕ → ℕ) → (List ℕ → ℕ) → Change → Change → Type 0
+IsCutShort offer words told before after out report =
+    ((text : List ℕ) × IsText offer words told text × ((a : Answer) → IsAnswer offer words text a → GotPrefix out a.out × GotPrefixAndPrefix report a.report no_memory))
+    ⊎ (ShelfFailed offer words before after × (out.after ≡ out.before) × GotPrefix report read_fault)
+    ⊎ ((out.after ≡ out.before) × GotPrefix report no_memory)
+
+-- Cut short by want of memory: each sink got a prefix of what the answer has, and the report then the line for it; or there was no
+-- memory to read the words, the output got nothing, and the report the line alone.
+abbrev pub IsStarved : Offer → List (List ℕ) → (List ℕ → Option (List ℕ)) → Change → Change → Type 0
+IsStarved offer words told out report =
+    ((text : List ℕ) × IsText offer words told text × ((a : Answer) → IsAnswer offer words text a → GotPrefix out a.out × GotPrefixAnd report a.report no_memory))
+    ⊎ ((out.after ≡ out.before) × Got report no_memory)
+
+-- The answer, whole.
+pub record IsWhole (offer : Offer) (words : List (List ℕ)) (told : List ℕ → Option (List ℕ)) (out report : Change) (status : ℕ) : Type 0 where
+  pub text : List ℕ
+  pub answer : Answer
+  pub is_text : IsText offer words told text
+  pub is_answer : IsAnswer offer words text answer
+  pub status_is : status ≡ answer.status
+  pub got_out : Got out answer.out
+  pub got_report : Got report answer.report
+
+-- No count of faults rose.
+pub record IsSmooth (offer : Offer) (words : List (List ℕ)) (before after : List ℕ → ℕ) (out report : Change) : Type 0 where
+  pub no_shelf : ¬ ShelfFailed offer words before after
+  pub no_out : ¬ HasFailed out
+  pub no_report : ¬ HasFailed report

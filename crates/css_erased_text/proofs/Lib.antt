@@ -1,0 +1,12 @@
+pub mod Counting
+pub mod Cutting
+pub mod SpliceCuts
+pub mod Twice
+pub mod Pairwise
+pub mod Alike
+pub mod PlainTables
+pub mod AlikeTokens
+pub mod EndedComments
+pub mod AlikeLines
+pub mod LeftLines
+pub mod OtherTokens

@@ -1,5 +1,0 @@
-use Rattle.css_lex.proofs.Counting.{erased_newlines}
-use Rattle.css_lex.proofs.laws.erasing_keeps_newlines.Goals as goal
-
-pub returns : goal.returns
-returns c = erased_newlines

@@ -1,8 +1,0 @@
-use Rattle.css_lex.proofs.Levels.{replacement-macro, replacement_names-macro}
-use Rattle.css_lex.proofs.macro_laws.tokens_replace_a_macro.Goals as goal
-
-pub returns-clause-tokens : goal.returns-clause-tokens
-returns-clause-tokens c = replacement-macro
-
-pub returns-clause-names : goal.returns-clause-names
-returns-clause-names c = replacement_names-macro

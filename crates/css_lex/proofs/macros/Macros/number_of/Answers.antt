@@ -1,6 +1,0 @@
-use Rattle.std.proofs.Common.{◌∙◌, bytes_eq}
-use Rattle.css_lex.proofs.Numbering.{position-mapped}
-use Rattle.css_lex.proofs.macros.Macros.number_of.Goals as goal
-
-pub returns : goal.returns
-returns c = c.get_index_of.ensures.index ∙ position-mapped (bytes_eq c.args.word.now) (λ k. k.items) c.args.self.now.words.keys

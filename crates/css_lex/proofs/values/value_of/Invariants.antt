@@ -1,6 +1,0 @@
-use Rattle.std.proofs.Common.{◌≡◌, ◌+◌, ◌*◌, drop, fold}
-use Rattle.css_lex.specs.Values.{value_in, digit_value}
-use Rattle.css_lex.proofs.values.value_of.Given as goal
-
-abbrev pub invariant-loop-digit : goal.invariant-loop-digit
-invariant-loop-digit l = value_in l.base l.digits ≡ fold (λ value b. l.base * value + digit_value b) l.value (drop l.digit-index l.digits)

@@ -1,8 +1,0 @@
--- What is kept of macros as the table that it stands for.
-use Rattle.css_lex.specs.Macros.{Table}
-use Rattle.css_lex.specs.NumberedWords.{words_of}
-use Rattle.css_lex.specs.Entries.{table_with}
-use Rattle.css_lex.specs.declared.macros.Macros.{Macros}
-
-abbrev pub table_of : Macros → Table
-table_of macros = table_with (words_of macros.words) macros.names.entries

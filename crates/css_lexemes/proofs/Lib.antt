@@ -1,0 +1,16 @@
+pub mod Rests
+pub mod Splices
+pub mod LineKinds
+pub mod CommentEnds
+pub mod Knowing
+pub mod Uncommenting
+pub mod Places
+pub mod Erasing
+pub mod Shifting
+pub mod Classes
+pub mod Longest
+pub mod Punctuators
+pub mod Foremost
+pub mod Within
+pub mod LinePieces
+pub mod Escapes

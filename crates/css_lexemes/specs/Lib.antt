@@ -1,0 +1,9 @@
+pub mod Source
+pub mod LineKinds
+pub mod Comments
+pub mod Fronts
+pub mod Lines
+pub mod Lexemes
+pub mod Longest
+pub mod Values
+pub mod Rising

@@ -1,0 +1,10 @@
+use Rattle.std.proofs.Common.{[], ◌∷◌, refl}
+use Rattle.css_vm.specs.Code.{routine}
+use Rattle.css_vm.proofs.Checked.{spot, pair, fits_by, fits_alike}
+use Rattle.css_machine_tests.proofs.machine.calls.passing.Goals as goal
+
+pub returns : goal.returns
+returns c =
+    fits_alike c.two.result (pair (routine c.plain.result) (routine c.function.result)) c.two.ensures
+    (rw (c.plain.ensures, c.function.ensures, c.in_ok-main.ensures.items, c.in_ok-callee.ensures.items, c.in_ok-params.ensures.items, c.instr.ensures, c.instr-2.ensures, c.instr-3.ensures, c.instr-4.ensures, c.instr-5.ensures, c.instr-6.ensures, c.instr-7.ensures)
+    (fits_by _ ((spot 0 2 ∷ spot 1 1 ∷ spot 2 0 ∷ spot 1 0 ∷ []) ∷ (spot 0 2 ∷ spot 1 1 ∷ spot 1 0 ∷ []) ∷ []) 1 refl))

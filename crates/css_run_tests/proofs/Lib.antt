@@ -1,0 +1,4 @@
+mod Sound
+mod Calls
+mod Yards
+mod PlainTask

@@ -1,0 +1,7 @@
+//! How a test ends where something isn't so. A call is less to prove than an assertion in its place.
+use std::process::Abort;
+
+/// Ends the test with these words where it isn't so.
+pub(crate) fn check(rt: &impl Abort, words: &str, is_so: bool) {
+    assert!(rt; is_so, "{words}");
+}

@@ -1,9 +1,0 @@
-//! Copies of parts of trees.
-
-mod declaration;
-mod expression;
-mod parameters;
-mod words;
-
-pub(crate) use expression::copied_optional;
-pub(crate) use words::copied_stars;

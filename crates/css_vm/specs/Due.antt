@@ -1,0 +1,36 @@
+-- A machine as contracts see it, and what it takes after an event.
+use Rattle.std.specs.Prelude.{◌≡◌, ℕ}
+use Rattle.css_vm.specs.declared.code.MarkKind.{MarkKind}
+use Rattle.css_vm.specs.declared.code.MarkKind.TheVariants as marks
+use Rattle.css_vm.specs.declared.machine.Due.{Due}
+use Rattle.css_vm.specs.declared.machine.Due.TheVariants as due
+use Rattle.css_vm.specs.declared.machine.Event.{Event}
+use Rattle.css_vm.specs.declared.machine.Event.TheVariants as events
+use Rattle.css_vm.specs.Machine.{State, IsOwed}
+
+-- its state, and what it takes next
+pub record Machine : Type 0 where
+  pub state : State
+  pub due : Due
+
+-- a mark takes an answer, of which a machine keeps one alone: whether tasks are made
+abbrev pub due_at : MarkKind → Due
+due_at marks.Start = due.Signal
+due_at marks.Finish = due.Signal
+due_at marks.Barrier = due.Signal
+due_at marks.Started = due.Value
+
+-- what it takes after an event: after its end, or a stop, nothing
+abbrev pub due_after : Event → Due
+due_after (events.Out bytes) = due.Value
+due_after (events.Submit s) = due.Value
+due_after (events.Mark kind line) = due_at kind
+due_after (events.Ended value line) = due.Nothing
+due_after (events.Stopped stop line) = due.Nothing
+
+-- it takes an answer, and has a cell for one that it keeps
+abbrev pub TakesAnswer : Due → State → Type 0
+TakesAnswer due.Run s = ⊥
+TakesAnswer due.Value s = IsOwed s
+TakesAnswer due.Signal s = Unit {0}
+TakesAnswer due.Nothing s = ⊥

@@ -1,5 +1,0 @@
-use Rattle.css_yard.proofs.Rows.{both_made}
-use Rattle.css_yard.proofs.tests.settled.Goals as goal
-
-pub settle-requires-clause-may : goal.settle-requires-clause-may
-settle-requires-clause-may c = both_made c.in_ok-yard.yard (c.in_ok-yard.ensures {u = tt})

@@ -1,5 +1,0 @@
-use Rattle.cssrun.proofs.OneAnswer.{one_answer_lem}
-use Rattle.cssrun.proofs.laws.one_answer.Goals as goal
-
-pub returns : goal.returns
-returns c = one_answer_lem c.one_text_answer.ensures

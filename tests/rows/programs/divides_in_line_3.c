@@ -1,0 +1,5 @@
+int main(void) {
+  int x = 0; putchar(97);
+  putchar(98 % x);
+  return 0;
+}

@@ -1,0 +1,1 @@
+int main(void) { int i = 0; while (i < 4) { if (i == 0) putchar(97); else if (i == 1) putchar(98); else putchar(99); i = i + 1; } return 0; }

@@ -1,0 +1,7 @@
+
+int main(void) {
+  putchar(97);
+  while
+    (1)
+    putchar(98);
+}

@@ -1,0 +1,2 @@
+#define DIGIT(n) 48
+int main(void) { return 0; }

@@ -1,0 +1,1 @@
+int main(void) { if (0) if (0) putchar(97); else putchar(98); return 0; }

@@ -1,0 +1,1 @@
+int main(void) { int i = 1; int j; while (i <= 3) { j = 0; while (j < i) { putchar(96 + i); j = j + 1; } i = i + 1; } return i * 10 + j; }

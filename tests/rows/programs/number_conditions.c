@@ -1,0 +1,1 @@
+int main(void) { int i = 3; while (i) i = i - 1; while (i) putchar(97); if (i) ; else putchar(98); return i; }

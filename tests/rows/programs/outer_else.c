@@ -1,0 +1,1 @@
+int main(void) { if (1) { if (0) putchar(97); } else putchar(98); return 0; }

@@ -1,0 +1,1 @@
+int main(void) { putchar(97); return 0; }

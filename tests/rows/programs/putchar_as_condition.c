@@ -1,0 +1,1 @@
+int main(void) { while (0) putchar(97); while (putchar(98)) ; return 0; }

@@ -1,0 +1,1 @@
+int main(void) { int i = 0; while (1) { if (i > 2) return i; putchar(48 + i); i = i + 1; } }

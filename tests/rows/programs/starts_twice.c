@@ -1,0 +1,5 @@
+int main(void) {
+  #pragma css start
+  #pragma css start
+  return 1;
+}

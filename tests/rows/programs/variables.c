@@ -1,0 +1,1 @@
+int main(void) { int x = 65; int y; y = x + 1; { x = y; { putchar(x); } } putchar(y + 1); return x - 66; }

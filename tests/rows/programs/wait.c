@@ -1,0 +1,4 @@
+int main(void) {
+#pragma css wait on(x)
+  return 0;
+}

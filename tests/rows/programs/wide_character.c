@@ -1,0 +1,1 @@
+int main(void) { putchar(353); return -5; }
