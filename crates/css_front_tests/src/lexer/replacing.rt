@@ -75,63 +75,69 @@ fn replaced(rt: &impl Abort, alloc: Global, macros: &Macros, word: &str) -> Resu
     Ok(out)
 }
 
+static MACROS: [(&str, &str); 10] = [
+    ("SELF", "SELF + SELF"),
+    ("LEFT", "RIGHT 1"),
+    ("RIGHT", "LEFT 2"),
+    ("X", "LEFT X RIGHT"),
+    ("NOTHING", ""),
+    ("CHAIN", "LINK ;"),
+    ("LINK", "NOTHING END NOTHING"),
+    ("while", "if"),
+    ("if", "while ( 1 )"),
+    ("TWICE", "CHAIN CHAIN"),
+];
+
+static REPLACED_WORDS: [(&str, &str); 14] = [
+    ("other", "other / 0"),
+    ("+", "+ / 0"),
+    ("12", "12 / 0"),
+    ("NULL", "( ( void * ) 0 ) / 1"),
+    ("EOF", "( - 1 ) / 1"),
+    ("SELF", "SELF + SELF / 1"),
+    ("LEFT", "LEFT 2 1 / 2"),
+    ("RIGHT", "RIGHT 1 2 / 2"),
+    ("X", "LEFT 2 1 X RIGHT 1 2 / 5"),
+    ("NOTHING", "/ 1"),
+    ("CHAIN", "END ; / 4"),
+    ("while", "while ( 1 ) / 2"),
+    ("if", "if ( 1 ) / 2"),
+    ("TWICE", "END ; END ; / 9"),
+];
+
 #[test]
 fn replacements(rt: HostRuntime) -> Result<(), Fail> {
     let alloc = rt.alloc();
     let mut macros = Macros::new(alloc)?;
-    for (name, words) in [
-        ("SELF", "SELF + SELF"),
-        ("LEFT", "RIGHT 1"),
-        ("RIGHT", "LEFT 2"),
-        ("X", "LEFT X RIGHT"),
-        ("NOTHING", ""),
-        ("CHAIN", "LINK ;"),
-        ("LINK", "NOTHING END NOTHING"),
-        ("while", "if"),
-        ("if", "while ( 1 )"),
-        ("TWICE", "CHAIN CHAIN"),
-    ] {
+    for &(name, words) in &MACROS {
         define(alloc, &mut macros, name, words)?;
     }
-    for (word, wanted) in [
-        ("other", "other / 0"),
-        ("+", "+ / 0"),
-        ("12", "12 / 0"),
-        ("NULL", "( ( void * ) 0 ) / 1"),
-        ("EOF", "( - 1 ) / 1"),
-        ("SELF", "SELF + SELF / 1"),
-        ("LEFT", "LEFT 2 1 / 2"),
-        ("RIGHT", "RIGHT 1 2 / 2"),
-        ("X", "LEFT 2 1 X RIGHT 1 2 / 5"),
-        ("NOTHING", "/ 1"),
-        ("CHAIN", "END ; / 4"),
-        ("while", "while ( 1 ) / 2"),
-        ("if", "if ( 1 ) / 2"),
-        ("TWICE", "END ; END ; / 9"),
-    ] {
+    for &(word, wanted) in &REPLACED_WORDS {
         let got = replaced(&rt, alloc, &macros, word)?;
         assert_eq!(rt; got.as_str(), wanted, "at {word}");
     }
     Ok(())
 }
 
+static DEFINITIONS: [(&str, &str, bool, &str); 10] = [
+    ("NULL", "0", true, "0 / 1"),
+    ("NULL", "0", true, "0 / 1"),
+    ("NULL", "1", false, "0 / 1"),
+    ("A", "x 10 +", true, "x 10 + / 1"),
+    ("A", "x 10 +", true, "x 10 + / 1"),
+    ("A", "x 10", false, "x 10 + / 1"),
+    ("A", "x 10 + 1", false, "x 10 + / 1"),
+    ("A", "y 10 +", false, "x 10 + / 1"),
+    ("A", "x 10 -", false, "x 10 + / 1"),
+    ("A", "", false, "x 10 + / 1"),
+];
+
 #[test]
 fn definitions(rt: HostRuntime) -> Result<(), Fail> {
     let alloc = rt.alloc();
     let mut macros = Macros::new(alloc)?;
     // A name, its tokens, whether they may be defined (C99 6.10.3 paragraph 2), and what the name is after that.
-    for (name, words, allowed, wanted) in [
-        ("NULL", "0", true, "0 / 1"),
-        ("NULL", "0", true, "0 / 1"),
-        ("NULL", "1", false, "0 / 1"),
-        ("A", "x 10 +", true, "x 10 + / 1"),
-        ("A", "x 10 +", true, "x 10 + / 1"),
-        ("A", "x 10", false, "x 10 + / 1"),
-        ("A", "x 10 + 1", false, "x 10 + / 1"),
-        ("A", "y 10 +", false, "x 10 + / 1"),
-        ("A", "x 10 -", false, "x 10 + / 1"),
-        ("A", "", false, "x 10 + / 1"),
-    ] {
+    for &(name, words, allowed, wanted) in &DEFINITIONS {
         let tokens = macro_tokens(alloc, words)?;
         assert_eq!(rt;
             macros.may_define(name.as_bytes(), tokens.as_slice()),

@@ -90,158 +90,164 @@ fn check_refused(
     Ok(())
 }
 
+static LEXEMES: [(&str, &str); 23] = [
+    ("", ""),
+    (
+        "[](){}.->++--&*+-~!/%",
+        "[ ] ( ) { } . -> ++ -- & * + - ~ ! / %",
+    ),
+    (
+        "<<>>< ><=>= ==!=^|&&||?:;",
+        "<< >> < > <= >= == != ^ | && || ? : ;",
+    ),
+    (
+        "...=*=/=%=+=-=<<=>>=&=^=|=,",
+        "... = *= /= %= += -= <<= >>= &= ^= |= ,",
+    ),
+    ("a+++++b >>= .. x.y", "a ++ ++ + b >>= . . x . y"),
+    ("a<<<=b...->--->&&&|||", "a << <= b ... -> -- -> && & || |"),
+    ("_a1 int while9", "_a1 int while9"),
+    (
+        "0 7 1 2u 3l 4ul 5LL 6uLL 7LLU 0x1f 017",
+        "0i 7i 1i 2u 3l 4ul 5ll 6ull 7ull 31i 15i",
+    ),
+    (
+        "2147483647 2147483648 4294967296",
+        "2147483647i 2147483648ll 4294967296ll",
+    ),
+    (
+        "0x7fffffff 0x80000000 0xFFFFFFFFu",
+        "2147483647i 2147483648u 4294967295u",
+    ),
+    (
+        "0xFFFFFFFFFFFFFFFF 18446744073709551615u",
+        "18446744073709551615ull 18446744073709551615ull",
+    ),
+    (
+        "9223372036854775807 037777777777",
+        "9223372036854775807ll 4294967295u",
+    ),
+    ("0x80000000l 2147483648l", "2147483648ul 2147483648ll"),
+    (
+        "'a' '\\'' '\\\"' '\\?' '\\\\' '\"'",
+        "'97 '39 '34 '63 '92 '34",
+    ),
+    (
+        "'\\a' '\\b' '\\f' '\\n' '\\r' '\\t' '\\v'",
+        "'7 '8 '12 '10 '13 '9 '11",
+    ),
+    (
+        "'\\0' '\\377' '\\x41' '\\xfF' '\\101'",
+        "'0 '255 '65 '255 '65",
+    ),
+    ("\"a\\x41\\1012\\n\"", "\"aAA2\n\""),
+    ("\"a\" \"b\"\n\"c\" x \"d\"", "\"abc\" x \"d\""),
+    (
+        "in\\\nt 1\\\n2 \"a\\\nb\" '\\\\\nn' +\\\r\n= x",
+        "int 12i \"ab\" '10 += x",
+    ),
+    (
+        "x\r\\\n\ny 0\\\nx1\\\r\n7 '\\\\\n0' .\\\n..",
+        "x y 23i '0 ...",
+    ),
+    ("a/**/b/*\n*/c//d\ne/ **/", "a b c e / * * /"),
+    (
+        "a/***/b/* * /**/c/*/ */d/\\\n/e\nf/\\\n**\\\n/g",
+        "a b c d f g",
+    ),
+    ("\"/*\" '/' // \"\n\"//\" /* \x01 */", "\"/*\" '47 \"//\""),
+];
+
 #[test]
 fn lexemes(rt: HostRuntime) -> Result<(), Fail> {
-    for (text, wanted) in [
-        ("", ""),
-        (
-            "[](){}.->++--&*+-~!/%",
-            "[ ] ( ) { } . -> ++ -- & * + - ~ ! / %",
-        ),
-        (
-            "<<>>< ><=>= ==!=^|&&||?:;",
-            "<< >> < > <= >= == != ^ | && || ? : ;",
-        ),
-        (
-            "...=*=/=%=+=-=<<=>>=&=^=|=,",
-            "... = *= /= %= += -= <<= >>= &= ^= |= ,",
-        ),
-        ("a+++++b >>= .. x.y", "a ++ ++ + b >>= . . x . y"),
-        ("a<<<=b...->--->&&&|||", "a << <= b ... -> -- -> && & || |"),
-        ("_a1 int while9", "_a1 int while9"),
-        (
-            "0 7 1 2u 3l 4ul 5LL 6uLL 7LLU 0x1f 017",
-            "0i 7i 1i 2u 3l 4ul 5ll 6ull 7ull 31i 15i",
-        ),
-        (
-            "2147483647 2147483648 4294967296",
-            "2147483647i 2147483648ll 4294967296ll",
-        ),
-        (
-            "0x7fffffff 0x80000000 0xFFFFFFFFu",
-            "2147483647i 2147483648u 4294967295u",
-        ),
-        (
-            "0xFFFFFFFFFFFFFFFF 18446744073709551615u",
-            "18446744073709551615ull 18446744073709551615ull",
-        ),
-        (
-            "9223372036854775807 037777777777",
-            "9223372036854775807ll 4294967295u",
-        ),
-        ("0x80000000l 2147483648l", "2147483648ul 2147483648ll"),
-        (
-            "'a' '\\'' '\\\"' '\\?' '\\\\' '\"'",
-            "'97 '39 '34 '63 '92 '34",
-        ),
-        (
-            "'\\a' '\\b' '\\f' '\\n' '\\r' '\\t' '\\v'",
-            "'7 '8 '12 '10 '13 '9 '11",
-        ),
-        (
-            "'\\0' '\\377' '\\x41' '\\xfF' '\\101'",
-            "'0 '255 '65 '255 '65",
-        ),
-        ("\"a\\x41\\1012\\n\"", "\"aAA2\n\""),
-        ("\"a\" \"b\"\n\"c\" x \"d\"", "\"abc\" x \"d\""),
-        (
-            "in\\\nt 1\\\n2 \"a\\\nb\" '\\\\\nn' +\\\r\n= x",
-            "int 12i \"ab\" '10 += x",
-        ),
-        (
-            "x\r\\\n\ny 0\\\nx1\\\r\n7 '\\\\\n0' .\\\n..",
-            "x y 23i '0 ...",
-        ),
-        ("a/**/b/*\n*/c//d\ne/ **/", "a b c e / * * /"),
-        (
-            "a/***/b/* * /**/c/*/ */d/\\\n/e\nf/\\\n**\\\n/g",
-            "a b c d f g",
-        ),
-        ("\"/*\" '/' // \"\n\"//\" /* \x01 */", "\"/*\" '47 \"//\""),
-    ] {
+    for &(text, wanted) in &LEXEMES {
         check_tokens(&rt, rt.alloc(), text, wanted)?;
     }
     Ok(())
 }
+
+static HASH_LINES: [(&str, &str); 16] = [
+    ("#define A 1\nA", "1i"),
+    ("#define A (x)\nA A", "( x ) ( x )"),
+    ("#define A A B\n#define B A\nA", "A A"),
+    ("#define while if\nwhile", "if"),
+    ("#define A\nA x A", "x"),
+    ("NULL EOF", "( ( void * ) 0i ) ( - 1i )"),
+    ("#define NULL 0\n#define NULL 0\nNULL", "0i"),
+    ("#define A 10\n#define A 0xa\nA", "10i"),
+    ("#define A 1\n#undef A\nA\n#undef A", "A"),
+    ("#define A 1\nA\n#undef A\n#define A 2\nA", "1i 2i"),
+    ("#include <it's> @\n#pragma omp A \"\n#\nx", "x"),
+    (
+        "#define A b\n#pragma css A \"x\" \"y\"\n#pragma A",
+        "< b \"xy\" >",
+    ),
+    (
+        "#pragma css task input(a)\n#pragma css",
+        "< task input ( a ) > < >",
+    ),
+    ("#define X css\n#pragma X y\n#pragma css X", "< css >"),
+    (
+        "#define S \"a\"\nS \"b\"\n#pragma css \nS",
+        "\"ab\" < > \"a\"",
+    ),
+    ("/* a\n*/ # /**/ define A /* */ 2 // x\nA", "2i"),
+];
 
 #[test]
 fn hash_lines(rt: HostRuntime) -> Result<(), Fail> {
-    for (text, wanted) in [
-        ("#define A 1\nA", "1i"),
-        ("#define A (x)\nA A", "( x ) ( x )"),
-        ("#define A A B\n#define B A\nA", "A A"),
-        ("#define while if\nwhile", "if"),
-        ("#define A\nA x A", "x"),
-        ("NULL EOF", "( ( void * ) 0i ) ( - 1i )"),
-        ("#define NULL 0\n#define NULL 0\nNULL", "0i"),
-        ("#define A 10\n#define A 0xa\nA", "10i"),
-        ("#define A 1\n#undef A\nA\n#undef A", "A"),
-        ("#define A 1\nA\n#undef A\n#define A 2\nA", "1i 2i"),
-        ("#include <it's> @\n#pragma omp A \"\n#\nx", "x"),
-        (
-            "#define A b\n#pragma css A \"x\" \"y\"\n#pragma A",
-            "< b \"xy\" >",
-        ),
-        (
-            "#pragma css task input(a)\n#pragma css",
-            "< task input ( a ) > < >",
-        ),
-        ("#define X css\n#pragma X y\n#pragma css X", "< css >"),
-        (
-            "#define S \"a\"\nS \"b\"\n#pragma css \nS",
-            "\"ab\" < > \"a\"",
-        ),
-        ("/* a\n*/ # /**/ define A /* */ 2 // x\nA", "2i"),
-    ] {
+    for &(text, wanted) in &HASH_LINES {
         check_tokens(&rt, rt.alloc(), text, wanted)?;
     }
     Ok(())
 }
 
+static REFUSALS: [(&str, StaticName, u32); 40] = [
+    ("a\x01", StaticName::BadByte, 1),
+    ("a\n\"\x7f\"", StaticName::BadByte, 2),
+    ("#include \x01", StaticName::BadByte, 1),
+    ("x\n@", StaticName::BadToken, 2),
+    ("a # b", StaticName::BadToken, 1),
+    ("'a\nb'", StaticName::BadToken, 1),
+    ("x \"a\\\"\n", StaticName::BadToken, 1),
+    ("x\n/* a\n", StaticName::BadToken, 2),
+    ("#pragma x /*/\n", StaticName::BadToken, 1),
+    ("a\n\\ b", StaticName::BadToken, 2),
+    ("a\\\\\n\nb", StaticName::BadToken, 1),
+    ("#define A @", StaticName::BadToken, 1),
+    ("#define A # x", StaticName::BadToken, 1),
+    ("#define A 1\n#define A 2 @", StaticName::BadToken, 2),
+    ("@ 08", StaticName::BadToken, 1),
+    ("#define", StaticName::BadMacro, 1),
+    ("#define 1 2", StaticName::BadMacro, 1),
+    ("#define f(x) @", StaticName::BadMacro, 1),
+    ("#define f\\\n(x)", StaticName::BadMacro, 1),
+    ("#define A 1\n\n#define A 2", StaticName::BadMacro, 3),
+    ("#define EOF 1\n#define EOF 2", StaticName::BadMacro, 2),
+    ("\n#if \x01", StaticName::BadMacro, 2),
+    ("##", StaticName::BadMacro, 1),
+    ("#undef", StaticName::BadMacro, 1),
+    ("#undef A B", StaticName::BadMacro, 1),
+    ("#undef 1", StaticName::BadMacro, 1),
+    ("08", StaticName::BadConstant, 1),
+    ("x\n.5", StaticName::BadConstant, 2),
+    ("1e+5 @", StaticName::BadConstant, 1),
+    ("0x", StaticName::BadConstant, 1),
+    ("1lul", StaticName::BadConstant, 1),
+    ("9223372036854775808", StaticName::BadConstant, 1),
+    ("18446744073709551616u", StaticName::BadConstant, 1),
+    ("''", StaticName::BadConstant, 1),
+    ("'ab'", StaticName::BadConstant, 1),
+    ("'\\400'", StaticName::BadConstant, 1),
+    ("'\\x100'", StaticName::BadConstant, 1),
+    ("'\\x'", StaticName::BadConstant, 1),
+    ("\"\\q\x01\"", StaticName::BadConstant, 1),
+    ("\n#define A '\\8'", StaticName::BadConstant, 2),
+];
+
 #[test]
 fn refusals(rt: HostRuntime) -> Result<(), Fail> {
-    for (text, name, line) in [
-        ("a\x01", StaticName::BadByte, 1),
-        ("a\n\"\x7f\"", StaticName::BadByte, 2),
-        ("#include \x01", StaticName::BadByte, 1),
-        ("x\n@", StaticName::BadToken, 2),
-        ("a # b", StaticName::BadToken, 1),
-        ("'a\nb'", StaticName::BadToken, 1),
-        ("x \"a\\\"\n", StaticName::BadToken, 1),
-        ("x\n/* a\n", StaticName::BadToken, 2),
-        ("#pragma x /*/\n", StaticName::BadToken, 1),
-        ("a\n\\ b", StaticName::BadToken, 2),
-        ("a\\\\\n\nb", StaticName::BadToken, 1),
-        ("#define A @", StaticName::BadToken, 1),
-        ("#define A # x", StaticName::BadToken, 1),
-        ("#define A 1\n#define A 2 @", StaticName::BadToken, 2),
-        ("@ 08", StaticName::BadToken, 1),
-        ("#define", StaticName::BadMacro, 1),
-        ("#define 1 2", StaticName::BadMacro, 1),
-        ("#define f(x) @", StaticName::BadMacro, 1),
-        ("#define f\\\n(x)", StaticName::BadMacro, 1),
-        ("#define A 1\n\n#define A 2", StaticName::BadMacro, 3),
-        ("#define EOF 1\n#define EOF 2", StaticName::BadMacro, 2),
-        ("\n#if \x01", StaticName::BadMacro, 2),
-        ("##", StaticName::BadMacro, 1),
-        ("#undef", StaticName::BadMacro, 1),
-        ("#undef A B", StaticName::BadMacro, 1),
-        ("#undef 1", StaticName::BadMacro, 1),
-        ("08", StaticName::BadConstant, 1),
-        ("x\n.5", StaticName::BadConstant, 2),
-        ("1e+5 @", StaticName::BadConstant, 1),
-        ("0x", StaticName::BadConstant, 1),
-        ("1lul", StaticName::BadConstant, 1),
-        ("9223372036854775808", StaticName::BadConstant, 1),
-        ("18446744073709551616u", StaticName::BadConstant, 1),
-        ("''", StaticName::BadConstant, 1),
-        ("'ab'", StaticName::BadConstant, 1),
-        ("'\\400'", StaticName::BadConstant, 1),
-        ("'\\x100'", StaticName::BadConstant, 1),
-        ("'\\x'", StaticName::BadConstant, 1),
-        ("\"\\q\x01\"", StaticName::BadConstant, 1),
-        ("\n#define A '\\8'", StaticName::BadConstant, 2),
-    ] {
+    for &(text, name, line) in &REFUSALS {
         check_refused(&rt, rt.alloc(), text, name, line)?;
     }
     Ok(())

@@ -61,31 +61,33 @@ fn check_most(
     Ok(())
 }
 
+static LIMITS_OF_MAIN: [([&str; 5], u32, &str); 9] = [
+    // Main's brace and 199 others.
+    (["int x=", "(", "1", ")", ";"], 199, "TooDeep 1"),
+    (["", "{", "", "}", ""], 199, "TooDeep 1"),
+    // Main, its block, the declaration, 496 operators and the constant.
+    (["int x=", "~", "1", "", ";"], 496, "Syntax 1"),
+    (["int x=1", "+1", "", "", ";"], 496, "Syntax 1"),
+    // Main, its block, an assignment as a statement and as an expression, 495 operators and the variable.
+    (["int x;x=", "~", "x", "", ";"], 495, "Syntax 1"),
+    // Main, its block, ten more, a call as a statement and as an expression, 485 operators and the constant.
+    (
+        ["{{{{{{{{{{putchar(1", "-1", "", "", ");}}}}}}}}}}"],
+        485,
+        "Syntax 1",
+    ),
+    // Main, its block, 497 headers and the empty statement.
+    (["", "if(1)", ";", "", ""], 497, "Syntax 1"),
+    (["", "if(1);else ", ";", "", ""], 497, "Syntax 1"),
+    // Main, its block, the loop, 496 operators and the constant.
+    (["while(", "~", "1", "", ");"], 496, "Syntax 1"),
+];
+
 /// 200 open brackets and 500 levels are read in main, and one more is not.
 #[test]
 fn limits_of_main(rt: HostRuntime) -> Result<(), Fail> {
     let alloc = rt.alloc();
-    for (parts, most, broken) in [
-        // Main's brace and 199 others.
-        (["int x=", "(", "1", ")", ";"], 199, "TooDeep 1"),
-        (["", "{", "", "}", ""], 199, "TooDeep 1"),
-        // Main, its block, the declaration, 496 operators and the constant.
-        (["int x=", "~", "1", "", ";"], 496, "Syntax 1"),
-        (["int x=1", "+1", "", "", ";"], 496, "Syntax 1"),
-        // Main, its block, an assignment as a statement and as an expression, 495 operators and the variable.
-        (["int x;x=", "~", "x", "", ";"], 495, "Syntax 1"),
-        // Main, its block, ten more, a call as a statement and as an expression, 485 operators and the constant.
-        (
-            ["{{{{{{{{{{putchar(1", "-1", "", "", ");}}}}}}}}}}"],
-            485,
-            "Syntax 1",
-        ),
-        // Main, its block, 497 headers and the empty statement.
-        (["", "if(1)", ";", "", ""], 497, "Syntax 1"),
-        (["", "if(1);else ", ";", "", ""], 497, "Syntax 1"),
-        // Main, its block, the loop, 496 operators and the constant.
-        (["while(", "~", "1", "", ");"], 496, "Syntax 1"),
-    ] {
+    for &(parts, most, broken) in &LIMITS_OF_MAIN {
         check_most(&rt, alloc, IN_MAIN, parts, (most, broken))?;
     }
     Ok(())
@@ -102,27 +104,29 @@ fn too_long(rt: HostRuntime) -> Result<(), Fail> {
     Ok(())
 }
 
+static LIMITS_OF_FUNCTIONS: [([&str; 5], u32, &str); 6] = [
+    // The function's brace and 199 others.
+    (["int x=", "p[", "0", "]", ";"], 199, "TooDeep 1"),
+    (["p[", "p[", "0", "]", "]=1;"], 198, "TooDeep 1"),
+    // The function, its block, the declaration, ten elements, 486 operators and the constant.
+    (
+        ["int x=p[p[p[p[p[p[p[p[p[p[", "~", "0", "", "]]]]]]]]]];"],
+        486,
+        "Syntax 1",
+    ),
+    // The function, its block, the declaration, an operator, 165 elements with two operators each, and the constant.
+    (["int x=~", "~~p[", "0", "]", ";"], 165, "Syntax 1"),
+    // The function, its block, an assignment as a statement and as an expression, the element, 494 operators and the constant.
+    (["p[", "~", "0", "", "]=1;"], 494, "Syntax 1"),
+    // The function, its block, an assignment as a statement and as an expression, 495 operators and the constant.
+    (["p[0]=", "~", "0", "", ";"], 495, "Syntax 1"),
+];
+
 /// 200 open brackets and 500 levels are read in a function too, and one more is not.
 #[test]
 fn limits_of_functions(rt: HostRuntime) -> Result<(), Fail> {
     let alloc = rt.alloc();
-    for (parts, most, broken) in [
-        // The function's brace and 199 others.
-        (["int x=", "p[", "0", "]", ";"], 199, "TooDeep 1"),
-        (["p[", "p[", "0", "]", "]=1;"], 198, "TooDeep 1"),
-        // The function, its block, the declaration, ten elements, 486 operators and the constant.
-        (
-            ["int x=p[p[p[p[p[p[p[p[p[p[", "~", "0", "", "]]]]]]]]]];"],
-            486,
-            "Syntax 1",
-        ),
-        // The function, its block, the declaration, an operator, 165 elements with two operators each, and the constant.
-        (["int x=~", "~~p[", "0", "]", ";"], 165, "Syntax 1"),
-        // The function, its block, an assignment as a statement and as an expression, the element, 494 operators and the constant.
-        (["p[", "~", "0", "", "]=1;"], 494, "Syntax 1"),
-        // The function, its block, an assignment as a statement and as an expression, 495 operators and the constant.
-        (["p[0]=", "~", "0", "", ";"], 495, "Syntax 1"),
-    ] {
+    for &(parts, most, broken) in &LIMITS_OF_FUNCTIONS {
         check_most(&rt, alloc, IN_FUNCTION, parts, (most, broken))?;
     }
     // Main, its block, 494 headers, a call as a statement and as an expression, the operator `&` and the variable.
