@@ -74,6 +74,9 @@ fn has_sizes(row: &Row) -> bool {
 
 fn has_text(alloc: Global, row: &Row) -> Result<bool, NoMemory> {
     let (number, nb, bs, v) = row;
+    if *number > 9999 {
+        return Ok(false);
+    }
     let text = filled(alloc, TEMPLATE, "@NB", *nb)?;
     let text = filled(alloc, text.as_str(), "@BS", *bs)?;
     let text = filled(alloc, text.as_str(), "@V", *v)?;
