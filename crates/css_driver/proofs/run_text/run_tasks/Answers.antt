@@ -19,7 +19,7 @@ returns-in-Ended g c =
     let code = code_of c.in-Ok.code in
     let known = c.program_has_verdict.ensures c.args.limits p c.requires.numbers in
     let has : HasVerdict c.args.limits p known.0 = (_, known.1) in
-    let ran = c.in-Ended.ensures known.0 (comes_to_verdict c.args.limits code p c.in-Ok.ensures.codes known.0 has) in
+    let ran = c.in-Ended.ensures.verdict known.0 (comes_to_verdict c.args.limits code p c.in-Ok.ensures.codes known.0 has) in
     task_ended c.one_verdict.ensures c.args.limits p known.0 has _ _ _ ran.1 (rw ran.0 at c.end.ensures)
 
 pub returns-in-WriteFault : goal.returns-in-WriteFault
@@ -28,7 +28,7 @@ returns-in-WriteFault g c =
     let code = code_of c.in-Ok.code in
     let known = c.program_has_verdict.ensures c.args.limits p c.requires.numbers in
     let has : HasVerdict c.args.limits p known.0 = (_, known.1) in
-    let ran = c.in-WriteFault.ensures known.0 (comes_to_verdict c.args.limits code p c.in-Ok.ensures.codes known.0 has) in
+    let ran = c.in-WriteFault.ensures.verdict known.0 (comes_to_verdict c.args.limits code p c.in-Ok.ensures.codes known.0 has) in
     ends_out_failed (IsTaskAnswer c.args.limits p) _ _ ran.0
     (task_prefix c.one_verdict.ensures c.args.limits p known.0 has (change g.O.Sink.written g.O.Sink.faults c.args.out.now c.play.new.out) ran.1) (λ bytes. AppendsPrefix-nothing _ bytes)
 
@@ -38,6 +38,6 @@ returns g c =
     let code = code_of c.in-Ok.code in
     let known = c.program_has_verdict.ensures c.args.limits p c.requires.numbers in
     let has : HasVerdict c.args.limits p known.0 = (_, known.1) in
-    let ran = c.in-NoMemory.ensures known.0 (comes_to_verdict c.args.limits code p c.in-Ok.ensures.codes known.0 has) in
+    let ran = c.in-NoMemory.ensures.verdict known.0 (comes_to_verdict c.args.limits code p c.in-Ok.ensures.codes known.0 has) in
     ends_no_memory (IsTaskAnswer c.args.limits p) _ _ _
     (task_prefix c.one_verdict.ensures c.args.limits p known.0 has (change g.O.Sink.written g.O.Sink.faults c.args.out.now c.play.new.out) ran) c.finish-in-NoMemory.ensures
