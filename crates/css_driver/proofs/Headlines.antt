@@ -77,7 +77,7 @@ module _ (law : ErasingLaw) (spelled : SpellsUnmarked) (offer : Offer) (words : 
   run_output told before after out report status (Answered other is (Whole a one same got_out got)) told_is of_run =
       let one' = subst (λ t. IsAnswer offer words t a) (told_text offer words told request text other asks told_is is) one in
       (a.out, got_out, answer_output a one' (subst IsOfRun same of_run))
-  run_output told before after out report status (Answered other is (Cut seven failed got)) told_is of_run = absurd (no_run_status status 7 (omega arith) seven of_run)
-  run_output told before after out report status (Answered other is (Starved eight got)) told_is of_run = absurd (no_run_status status 8 (omega arith) eight of_run)
+  run_output told before after out report status (Answered other is (Cut seven cut)) told_is of_run = absurd (no_run_status status 7 (omega arith) seven of_run)
+  run_output told before after out report status (Answered other is (Starved eight prefix got)) told_is of_run = absurd (no_run_status status 8 (omega arith) eight of_run)
   run_output told before after out report status (Unread rose same finishes) told_is of_run = absurd (not_finished report read_fault 6 status (omega arith) finishes of_run)
   run_output told before after out report status (Unheard same finishes) told_is of_run = absurd (not_finished report no_memory 8 status (omega arith) finishes of_run)
