@@ -14,6 +14,6 @@ mod run;
 mod run_text;
 
 pub use finish::no_memory_for_words;
-pub use laws::{one_answer, one_text_answer, programs_have_answers};
+pub use laws::{never_unanswered, one_answer, one_text_answer, programs_have_answers};
 pub use plain_program::plain_top;
 pub use program::top;
