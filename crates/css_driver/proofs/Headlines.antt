@@ -1,7 +1,7 @@
--- The output of a run is that of the text without its directives.
-use Rattle.std.proofs.Common.{◌≡◌, ◌≤◌, ℕ, inl, inr, List, Option, Some, sym, ap, subst, arith}
+-- A run's answer is a verdict's, which is that of the text without its directives.
+use Rattle.std.proofs.Common.{◌≡◌, ◌≤◌, ℕ, inl, inr, List, [], ◌++◌, map, Option, Some, refl, ap, subst, arith}
 use Rattle.css_base.specs.declared.limits.Limits.{Limits}
-use Rattle.css_semantics.specs.Dialogue.{tape_of}
+use Rattle.css_semantics.specs.Dialogue.{Tape, tape_of}
 use Rattle.css_semantics.specs.Flat.{no_frames, flat}
 use Rattle.css_semantics.specs.Verdict.{Verdict, verdict, judged_in}
 use Rattle.css_lexemes.specs.Lines.{erased}
@@ -10,7 +10,8 @@ use Rattle.css_small.specs.Texts.{Spells}
 use Rattle.css_small_code.specs.Meaning.{source}
 use Rattle.css_erasing.specs.Unmarked.{unmarked}
 use Rattle.css_erasing.specs.Plain.{entries}
-use Rattle.css_erasing.specs.Erased.{Answers}
+use Rattle.css_erasing.specs.Erased.{IsPassed, Answers}
+use Rattle.css_erasing.specs.Points.{points, erased_image}
 use Rattle.css_words.specs.declared.command.Command.{Command}
 use Rattle.css_words.specs.declared.command.Command.TheVariants.{Run}
 use Rattle.css_words.specs.declared.request.Request.{Request}
@@ -18,20 +19,22 @@ use Rattle.css_io.specs.Changes.{Change, Got}
 use Rattle.css_driver.specs.Request.{Offer, Asks}
 use Rattle.css_driver.specs.Answer.{Answer, IsTaskAnswer, IsProgramAnswer, IsTextAnswer, Refused, Given, IsAnswer, WordsRefused, Asked, no_memory, read_fault}
 use Rattle.css_driver.specs.Ends.{Whole, Cut, Starved, Finishes, Written, CutLine, CallEnds, Answered, Unread, Unheard}
-use Rattle.css_driver.specs.Headline.{IsErasedOutput, IsOfRun}
+use Rattle.css_driver.specs.Headline.{IsErasedRun, IsOfRun}
 use Rattle.css_driver.proofs.Clauses.{told_text}
 use Rattle.css_driver.proofs.Words.{asks_nothing, one_request}
 
--- the verdict is that of the program without its directives
-abbrev pub ErasingLaw : Type 0
-ErasingLaw = (limits : Limits) (fuel enough n : ℕ) (p : Program) (v : Verdict) → verdict (no_frames limits.memory) (source (judged_in limits) fuel p) ≡ Some v → entries (tape_of (source (judged_in limits) fuel p)) ≤ n → fuel ≤ enough → Answers v.ending v.output (source (flat limits.memory n) enough (unmarked p))
+-- what css_erasing says of a program under the rules and of the program without its directives
+pub record ErasingLaws : Type 0 where
+  pub verdicts : (limits : Limits) (fuel enough n : ℕ) (p : Program) (v : Verdict) → verdict (no_frames limits.memory) (source (judged_in limits) fuel p) ≡ Some v → entries (tape_of (source (judged_in limits) fuel p)) ≤ n → fuel ≤ enough → Answers v.ending v.output (source (flat limits.memory n) enough (unmarked p))
+  pub passed : (limits : Limits) (fuel enough n : ℕ) (p : Program) (newer tape : Tape) → tape_of (source (judged_in limits) fuel p) ≡ newer ++ tape → entries (tape_of (source (judged_in limits) fuel p)) ≤ n → fuel ≤ enough → IsPassed tape (tape_of (source (flat limits.memory n) enough (unmarked p)))
+  pub images : (limits : Limits) (fuel : ℕ) (p : Program) (v : Verdict) → verdict (no_frames limits.memory) (source (judged_in limits) fuel p) ≡ Some v → v.images ≡ map (erased_image (no_frames limits.memory)) (points (tape_of (source (judged_in limits) fuel p)))
 
 -- the text without its directives spells that program
 abbrev pub SpellsUnmarked : Type 0
 SpellsUnmarked = (text : List ℕ) (p : Program) → Spells text p → Spells (erased text) (unmarked p)
 
-erased_output : ErasingLaw → SpellsUnmarked → (limits : Limits) (text : List ℕ) (p : Program) (a : Answer) → Spells text p → IsTaskAnswer limits p a → IsErasedOutput limits text a.out
-erased_output law spelled limits text p a spells one =
+erased_run : ErasingLaws → SpellsUnmarked → (limits : Limits) (text : List ℕ) (p : Program) (a : Answer) → Spells text p → IsTaskAnswer limits p a → IsErasedRun limits text a
+erased_run laws spelled limits text p a spells one =
     record {
       marked = p;
       plain = unmarked p;
@@ -40,13 +43,16 @@ erased_output law spelled limits text p a spells one =
       fuel = one.has.0;
       v = one.v;
       has = one.has.1;
-      answers = λ units enough few less.
-          subst (λ bytes. Answers one.v.ending bytes (source (flat limits.memory units) enough (unmarked p))) (sym one.out_is)
-          (law limits one.has.0 enough units p one.v one.has.1 few less);
+      out_is = one.out_is;
+      report_is = one.report_is;
+      status_is = one.status_is;
+      answers = λ units enough few less. laws.verdicts limits one.has.0 enough units p one.v one.has.1 few less;
+      passed = λ units enough few less. laws.passed limits one.has.0 enough units p [] (tape_of (source (judged_in limits) one.has.0 p)) refl few less;
+      images = laws.images limits one.has.0 p one.v one.has.1;
     }
 
-given_output : ErasingLaw → SpellsUnmarked → (limits : Limits) (text : List ℕ) (a : Answer) → IsProgramAnswer Run limits text a → IsErasedOutput limits text a.out
-given_output law spelled limits text a (p, spells, one) = erased_output law spelled limits text p a spells one
+given_run : ErasingLaws → SpellsUnmarked → (limits : Limits) (text : List ℕ) (a : Answer) → IsProgramAnswer Run limits text a → IsErasedRun limits text a
+given_run laws spelled limits text a (p, spells, one) = erased_run laws spelled limits text p a spells one
 
 no_run_status : (status n : ℕ) → 6 ≤ n → status ≡ n → IsOfRun status → ⊥
 no_run_status status n more is (inl low) = absurd (omega arith)
@@ -61,23 +67,24 @@ not_finished : (report : Change) (line : List ℕ) (n status : ℕ) → 6 ≤ n 
 not_finished report line n status more (Written is got) of_run = no_run_status status n more is of_run
 not_finished report line n status more (CutLine is failed got) of_run = no_run_status status 7 (omega arith) is of_run
 
-module _ (law : ErasingLaw) (spelled : SpellsUnmarked) (offer : Offer) (words : List (List ℕ)) (request : Request) (asks : Asks offer words request) (runs : request.command ≡ Run) (text : List ℕ) where
-  text_output : (a : Answer) → IsTextAnswer request text a → IsOfRun a.status → IsErasedOutput request.limits text a.out
-  text_output a (Refused fault refused is) of_run = absurd ((low_no_run a.status of_run).1 (ap (λ (x : Answer). x.status) is))
-  text_output a (Given one) of_run = given_output law spelled request.limits text a (subst (λ (c : Command). IsProgramAnswer c request.limits text a) runs one)
+module _ (laws : ErasingLaws) (spelled : SpellsUnmarked) (offer : Offer) (words : List (List ℕ)) (request : Request) (asks : Asks offer words request) (runs : request.command ≡ Run) (text : List ℕ) where
+  text_run : (a : Answer) → IsTextAnswer request text a → IsOfRun a.status → IsErasedRun request.limits text a
+  text_run a (Refused fault refused is) of_run = absurd ((low_no_run a.status of_run).1 (ap (λ (x : Answer). x.status) is))
+  text_run a (Given one) of_run = given_run laws spelled request.limits text a (subst (λ (c : Command). IsProgramAnswer c request.limits text a) runs one)
 
-  answer_output : (a : Answer) → IsAnswer offer words text a → IsOfRun a.status → IsErasedOutput request.limits text a.out
-  answer_output a (WordsRefused refused is) of_run = absurd (asks_nothing offer words request refused asks)
-  answer_output a (Asked other also answer) of_run =
-      text_output a (subst (λ (r : Request). IsTextAnswer r text a) (one_request offer words other request also asks) answer) of_run
+  answer_run : (a : Answer) → IsAnswer offer words text a → IsOfRun a.status → IsErasedRun request.limits text a
+  answer_run a (WordsRefused refused is) of_run = absurd (asks_nothing offer words request refused asks)
+  answer_run a (Asked other also answer) of_run =
+      text_run a (subst (λ (r : Request). IsTextAnswer r text a) (one_request offer words other request also asks) answer) of_run
 
-  -- a run that ended gave that output
-  pub run_output : (told : List ℕ → Option (List ℕ)) (before after : List ℕ → ℕ) (out report : Change) (status : ℕ) → CallEnds offer words told before after out report status
-      → told request.file ≡ Some text → IsOfRun status → (bytes : List ℕ) × Got out bytes × IsErasedOutput request.limits text bytes
-  run_output told before after out report status (Answered other is (Whole a one same got_out got)) told_is of_run =
+  -- a run that ended gave that answer
+  pub run_answered : (told : List ℕ → Option (List ℕ)) (before after : List ℕ → ℕ) (out report : Change) (status : ℕ) → CallEnds offer words told before after out report status
+      → told request.file ≡ Some text → IsOfRun status
+      → (a : Answer) × (status ≡ a.status) × Got out a.out × Got report a.report × IsErasedRun request.limits text a
+  run_answered told before after out report status (Answered other is (Whole a one same got_out got)) told_is of_run =
       let one' = subst (λ t. IsAnswer offer words t a) (told_text offer words told request text other asks told_is is) one in
-      (a.out, got_out, answer_output a one' (subst IsOfRun same of_run))
-  run_output told before after out report status (Answered other is (Cut seven failed got)) told_is of_run = absurd (no_run_status status 7 (omega arith) seven of_run)
-  run_output told before after out report status (Answered other is (Starved eight got)) told_is of_run = absurd (no_run_status status 8 (omega arith) eight of_run)
-  run_output told before after out report status (Unread rose same finishes) told_is of_run = absurd (not_finished report read_fault 6 status (omega arith) finishes of_run)
-  run_output told before after out report status (Unheard same finishes) told_is of_run = absurd (not_finished report no_memory 8 status (omega arith) finishes of_run)
+      (a, same, got_out, got, answer_run a one' (subst IsOfRun same of_run))
+  run_answered told before after out report status (Answered other is (Cut seven cut)) told_is of_run = absurd (no_run_status status 7 (omega arith) seven of_run)
+  run_answered told before after out report status (Answered other is (Starved eight prefix got)) told_is of_run = absurd (no_run_status status 8 (omega arith) eight of_run)
+  run_answered told before after out report status (Unread rose same finishes) told_is of_run = absurd (not_finished report read_fault 6 status (omega arith) finishes of_run)
+  run_answered told before after out report status (Unheard same finishes) told_is of_run = absurd (not_finished report no_memory 8 status (omega arith) finishes of_run)

@@ -1,7 +1,7 @@
 pub mod Exec
 pub mod Turns
 pub mod Unmarked
-pub mod Parts
+pub mod RunParts
 pub mod Fuel
 pub mod Words
 pub mod Commands
@@ -9,6 +9,7 @@ pub mod Endings
 pub mod Runs
 pub mod TaskRuns
 pub mod OneAnswer
+pub mod Unanswered
 pub mod Texts
 pub mod Headlines
 pub mod Clauses

@@ -115,7 +115,7 @@ module _ (more_fuel : MoreFuel) (limits : Limits) (code : Code) (p : Program) (k
       → ways.Ends (IsRunAnswer limits p) out report status
   run_ended out report status got (inl line) =
       let a = answer_from k.ending (output (tape_of k.o)) in
-      ends_answer (IsRunAnswer limits p) out report status a k.answer_is (λ b one. one_run_answer more_fuel limits p b a one k.answer_is) got line
+      ends_answer (IsRunAnswer limits p) out report status a k.answer_is got line
   run_ended out report status got (inr starved) =
       ends_no_memory (IsRunAnswer limits p) out report status
       (run_prefix out (AppendsPrefix-whole out.before out.after (output (tape_of k.o)) got)) starved

@@ -78,8 +78,7 @@ module _ (only : OneVerdict) (limits : Limits) (p : Program) (v : Verdict) (has 
       → ways.Finishes report (ending_line v.ending) (ending_status v.ending) status ⊎ ways.Finishes report no_memory 8 status
       → ways.Ends (IsTaskAnswer limits p) out report status
   task_ended out report status got (inl line) =
-      let is = verdict_answer-is limits p v has in
-      ends_answer (IsTaskAnswer limits p) out report status (verdict_answer v) is (λ b one. one_task_answer only limits p b (verdict_answer v) one is) got line
+      ends_answer (IsTaskAnswer limits p) out report status (verdict_answer v) (verdict_answer-is limits p v has) got line
   task_ended out report status got (inr starved) =
       ends_no_memory (IsTaskAnswer limits p) out report status
       (task_prefix out (AppendsPrefix-whole out.before out.after v.output got)) starved

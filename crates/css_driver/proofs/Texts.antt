@@ -35,7 +35,7 @@ module _ (only : OneTextAnswer) (request : Request) (out report : Change) (statu
   pub text_reported : (text : List ℕ) (a : Answer) → IsTextAnswer request text a → a.out ≡ [] → out.after ≡ out.before → Finishes report a.report a.status status
       → Ends (IsTextAnswer request text) out report status
   text_reported text a one silent same =
-      ends_answer (IsTextAnswer request text) out report status a one (λ b other. only request text b a other one)
+      ends_answer (IsTextAnswer request text) out report status a one
       (subst (λ bytes. Got out bytes) (sym silent) (got_nothing out same))
 
   -- a text that is refused is reported so, or there is no memory for the line
@@ -68,7 +68,7 @@ module _ (only : OneTextAnswer) (request : Request) (out report : Change) (statu
         → ((a : Answer) → IsProgramAnswer command request.limits text a → IsOne request.limits a)
         → ((fault : StaticFault) → IsRefusedBy command text fault → ⊥) → Ends (IsOne limits) out report status → Ends (IsTextAnswer request text) out report status
     given_as to back read ends =
-        Ends-map (IsOne request.limits) (IsTextAnswer request text) out report status (λ a one. answer_given request text command a is (to a one)) (given_back back read)
+        Ends-map (IsOne request.limits) (IsTextAnswer request text) out report (λ a one. answer_given request text command a is (to a one)) (given_back back read) status
         (subst (λ l. Ends (IsOne l) out report status) (sym limits_are) ends)
 
   -- a call that ends as the first bytes of a text ask, one more than the longest has, ends as the text asks
@@ -76,7 +76,7 @@ module _ (only : OneTextAnswer) (request : Request) (out report : Change) (statu
     ends_long : 4194304 < length all → Ends (IsTextAnswer request (take limit all)) out report status → Ends (IsTextAnswer request all) out report status
     ends_long long =
         let first : 4194304 < length (take limit all) = (let e = length-take-le limit all (omega (arith, limit_is)) in omega (arith, limit_is, e)) in
-        Ends-map (IsTextAnswer request (take limit all)) (IsTextAnswer request all) out report status (to_long (take limit all) all first long) (to_long all (take limit all) long first)
+        Ends-map (IsTextAnswer request (take limit all)) (IsTextAnswer request all) out report (to_long (take limit all) all first long) (to_long all (take limit all) long first) status
 
     ends_short : length all ≤ 4194304 → Ends (IsTextAnswer request (take limit all)) out report status → Ends (IsTextAnswer request all) out report status
     ends_short short = subst (λ t. Ends (IsTextAnswer request t) out report status) (take_all limit all (omega (arith, limit_is)))
@@ -100,7 +100,7 @@ module _ (offer : Offer) (words : List (List ℕ)) (told : List ℕ → Option (
       text_answer text a (Asked other also is) = subst (λ (r : Request). IsTextAnswer r text a) (one_request offer words other request also asks) is
 
       ends_asked : (text : List ℕ) → Ends (IsTextAnswer request text) out report status → Ends (IsAnswer offer words text) out report status
-      ends_asked text = Ends-map (IsTextAnswer request text) (IsAnswer offer words text) out report status (λ a is. Asked request asks is) (text_answer text)
+      ends_asked text = Ends-map (IsTextAnswer request text) (IsAnswer offer words text) out report (λ a is. Asked request asks is) (text_answer text) status
 
       module _ (only : OneTextAnswer) (limit : ℕ) (text : List ℕ) where
         answered_from : limit ≡ 4194305 → (file : Option (List ℕ)) → told request.file ≡ file → IfSome file (λ all. text ≡ take limit all)
@@ -134,8 +134,4 @@ module _ (offer : Offer) (words : List (List ℕ)) (told : List ℕ → Option (
     ends_refused refused same finishes =
         let a : Answer = record { out = []; report = words_refused; status = 2 } in
         Answered [] (λ request asks. absurd (asks_nothing offer words request refused asks))
-        (ends_answer (IsAnswer offer words []) out report status a (WordsRefused refused refl) (not_asked_is refused a refl) (got_nothing out same) finishes)
-      where
-        not_asked_is : AreRefused offer words → (a : Answer) → a ≡ record { out = []; report = words_refused; status = 2 } → (b : Answer) → IsAnswer offer words [] b → b ≡ a
-        not_asked_is refused a is b (WordsRefused also is') = is' ∙ sym is
-        not_asked_is refused a is b (Asked request asks answer) = absurd (asks_nothing offer words request refused asks)
+        (ends_answer (IsAnswer offer words []) out report status a (WordsRefused refused refl) (got_nothing out same) finishes)

@@ -80,3 +80,8 @@ whole_served order (zero, below, is) = subst IsServed is tt
 whole_served order (suc zero, below, is) = subst IsServed is tt
 whole_served order (suc (suc zero), below, is) = subst IsServed is tt
 whole_served order (suc (suc (suc k)), below, is) = absurd (let last : suc (suc (suc k)) < 3 = below in omega arith)
+
+-- so what words ask for of all that is built is served
+pub asks_served : (words : List (List ℕ)) (request : Request) → Asks whole words request → IsServed request.command
+asks_served words request asks =
+    read_served words asks.built request (λ order has. whole_served order (subst (λ (o : Offer). Contains o.commands order) asks.is_offered has)) asks.reads

@@ -1,5 +1,5 @@
 -- What a run with tasks gives, in the words of the text without its directives.
-use Rattle.std.specs.Prelude.{◌≡◌, ◌≤◌, ◌⊎◌, ℕ, List, Some}
+use Rattle.std.specs.Prelude.{◌≡◌, ◌≤◌, ◌⊎◌, ℕ, List, map, Some}
 use Rattle.css_base.specs.declared.limits.Limits.{Limits}
 use Rattle.css_semantics.specs.Dialogue.{tape_of}
 use Rattle.css_semantics.specs.Flat.{no_frames, flat}
@@ -9,12 +9,15 @@ use Rattle.css_small.specs.Tree.{Program}
 use Rattle.css_small.specs.Texts.{Spells}
 use Rattle.css_small_code.specs.Meaning.{source}
 use Rattle.css_erasing.specs.Plain.{entries}
-use Rattle.css_erasing.specs.Erased.{Answers}
+use Rattle.css_erasing.specs.Erased.{IsPassed, Answers}
+use Rattle.css_erasing.specs.Points.{points, erased_image}
+use Rattle.css_driver.specs.Answer.{Answer, ending_line, ending_status}
 
--- The text without its directives spells a program, and these bytes are that program's output in a flat memory, up to the first fault
--- or rule in program order: so with each number of units that is at least the entries on the verdict's tape, and each fuel that is at
--- least the verdict's.
-pub record IsErasedOutput (limits : Limits) (text : List ℕ) (bytes : List ℕ) : Type 0 where
+-- The answer is a verdict's: its output, and its ending's report and status. The text without its directives spells a program. With each
+-- number of units that is at least the entries on the verdict's tape, and each fuel that is at least the verdict's, that program in a
+-- flat memory comes to the same result or fault, with the same output, or goes on from it where a rule ended the run. The verdict's
+-- tape without what it says of tasks is a front of that program's, and the images are of that program's memory at points of it.
+pub record IsErasedRun (limits : Limits) (text : List ℕ) (a : Answer) : Type 0 where
   pub marked : Program
   pub plain : Program
   pub spells : Spells text marked
@@ -22,8 +25,14 @@ pub record IsErasedOutput (limits : Limits) (text : List ℕ) (bytes : List ℕ)
   pub fuel : ℕ
   pub v : Verdict
   pub has : verdict (no_frames limits.memory) (source (judged_in limits) fuel marked) ≡ Some v
+  pub out_is : a.out ≡ v.output
+  pub report_is : a.report ≡ ending_line v.ending
+  pub status_is : a.status ≡ ending_status v.ending
   pub answers : (units enough : ℕ) → entries (tape_of (source (judged_in limits) fuel marked)) ≤ units → fuel ≤ enough
-      → Answers v.ending bytes (source (flat limits.memory units) enough plain)
+      → Answers v.ending v.output (source (flat limits.memory units) enough plain)
+  pub passed : (units enough : ℕ) → entries (tape_of (source (judged_in limits) fuel marked)) ≤ units → fuel ≤ enough
+      → IsPassed (tape_of (source (judged_in limits) fuel marked)) (tape_of (source (flat limits.memory units) enough plain))
+  pub images : v.images ≡ map (erased_image (no_frames limits.memory)) (points (tape_of (source (judged_in limits) fuel marked)))
 
 -- the status of a run that ended
 abbrev pub IsOfRun : ℕ → Type 0

@@ -41,6 +41,13 @@ pub(crate) fn finish<R: Sink>(report: &mut R, line: &[u8], status: u8) -> u8
     }
 }
 
+/// Ends a call for whose words there was no memory: the report gets the line for it, and the status is 8, or 7 where the report fails.
+pub fn no_memory_for_words<R: Sink>(report: &mut R) -> u8
+    ensures { Finishes (change R.written R.faults report.old report.new) no_memory 8 result }
+{
+    finish(report, NO_MEMORY, NO_MEMORY_STATUS)
+}
+
 /// Reports a static rule that the text breaks.
 pub(crate) fn refuse<R: Sink>(alloc: Global, fault: &StaticFault, report: &mut R) -> u8
     ensures { Finishes (change R.written R.faults report.old report.new) (static_line fault.now.name fault.now.line) 3 result

@@ -7,9 +7,9 @@ ghost use Rattle.css_small.specs.Texts.{Spells};
 ghost use Rattle.css_words.specs.declared.command.Command.TheVariants.{Check, Erased, Run};
 ghost use Rattle.css_words.specs.declared.request.Request.{Request};
 ghost use Rattle.css_driver.specs.Answer.{Answer, IsAnswer, IsTextAnswer};
-ghost use Rattle.css_driver.specs.Request.{Offer};
+ghost use Rattle.css_driver.specs.Request.{Offer, whole, Asks, IsServed};
 
-use css_small::{numbers_fit, one_reading};
+use css_small::{never_neither, numbers_fit, one_reading};
 use css_small_code::{enough_fuel, more_fuel, one_verdict, program_has_verdict};
 
 /// A request and a text have at most one answer: one status, and the bytes of output and report.
@@ -42,4 +42,14 @@ pub fn programs_have_answers()
     numbers_fit();
     enough_fuel();
     program_has_verdict();
+}
+
+/// No request for a command that the program serves is without an answer, whatever the text; so no words that ask for something are.
+pub fn never_unanswered()
+    ensures served { (request : Request) (text : List ℕ) → IsServed request.command → ((a : Answer) → IsTextAnswer request text a → ⊥) → ⊥ }
+    ensures asked { (words : List (List ℕ)) (request : Request) (text : List ℕ) → Asks whole words request
+        → ((a : Answer) → IsAnswer whole words text a → ⊥) → ⊥ }
+{
+    never_neither();
+    programs_have_answers();
 }

@@ -13,6 +13,7 @@ mod program;
 mod run;
 mod run_text;
 
-pub use laws::{one_answer, one_text_answer, programs_have_answers};
+pub use finish::no_memory_for_words;
+pub use laws::{never_unanswered, one_answer, one_text_answer, programs_have_answers};
 pub use plain_program::plain_top;
 pub use program::top;

@@ -49,12 +49,12 @@ pub fn plain_top<S: Shelf, I: Source, O: Sink, R: Sink>(
     ensures verdict { result < 6 → IsWhole plain words.now (S.file shelf.old)
         (change O.written O.faults out.old out.new) (change R.written R.faults report.old report.new) result }
 
-    // 7 comes only where a sink's count rose. Each sink got a prefix.
+    // 7 comes only where a sink's count rose: that of `out`, and nothing is reported then; or that of the report, in its last line.
     ensures sinks { result ≡ 7 → HasFailed (change O.written O.faults out.old out.new) ⊎ HasFailed (change R.written R.faults report.old report.new) }
     ensures sinks_got { result ≡ 7 → IsCutShort plain words.now (S.file shelf.old) (S.faults shelf.old) (S.faults shelf.new)
         (change O.written O.faults out.old out.new) (change R.written R.faults report.old report.new) }
 
-    // 8 is want of memory. Each sink got a prefix, and the report then the line for it.
+    // 8 is want of memory. `out` got a prefix, and the report the line for it alone.
     ensures memory { result ≡ 8 → IsStarved plain words.now (S.file shelf.old)
         (change O.written O.faults out.old out.new) (change R.written R.faults report.old report.new) }
     ensures statuses { result ≤ 8 }

@@ -7,13 +7,15 @@ ghost use Rattle.css_driver.specs.Answer.{Answer, IsRefusedBy, IsTextAnswer, wor
 ghost use Rattle.css_words.specs.declared.command.Command.TheVariants.{Run};
 ghost use Rattle.css_driver.specs.Request.{whole, Asks, AreRefused};
 ghost use Rattle.css_driver.specs.Ends.{IsText, IsWhole, IsCutShort, IsStarved, IsSmooth, ShelfFailed, CallEnds};
-ghost use Rattle.css_driver.specs.Headline.{IsErasedOutput, IsOfRun};
+ghost use Rattle.css_driver.specs.Headline.{IsErasedRun, IsOfRun};
 
 use crate::answers::answer_words;
 use crate::built::BUILT;
 use crate::laws::one_answer;
 use css_base::Words;
-use css_erasing::{erased_texts_spell_the_unmarked, verdict_is_the_erased_programs};
+use css_erasing::{
+    erased_texts_spell_the_unmarked, points_are_the_erased_programs, verdict_is_the_erased_programs,
+};
 use css_io::{Gate, Shelf, Sink, Source};
 use std::alloc::Global;
 use std::sync::Wait;
@@ -56,12 +58,12 @@ where
     ensures verdict { result < 6 → IsWhole whole words.now (S.file shelf.old)
         (change O.written O.faults out.old out.new) (change R.written R.faults report.old report.new) result }
 
-    // 7 comes only where a sink's count rose. Each sink got a prefix.
+    // 7 comes only where a sink's count rose: that of `out`, and nothing is reported then; or that of the report, in its last line.
     ensures sinks { result ≡ 7 → HasFailed (change O.written O.faults out.old out.new) ⊎ HasFailed (change R.written R.faults report.old report.new) }
     ensures sinks_got { result ≡ 7 → IsCutShort whole words.now (S.file shelf.old) (S.faults shelf.old) (S.faults shelf.new)
         (change O.written O.faults out.old out.new) (change R.written R.faults report.old report.new) }
 
-    // 8 is want of memory. Each sink got a prefix, and the report then the line for it.
+    // 8 is want of memory. `out` got a prefix, and the report the line for it alone.
     ensures memory { result ≡ 8 → IsStarved whole words.now (S.file shelf.old)
         (change O.written O.faults out.old out.new) (change R.written R.faults report.old report.new) }
     ensures statuses { result ≤ 8 }
@@ -81,10 +83,12 @@ where
     ensures ends { CallEnds whole words.now (S.file shelf.old) (S.faults shelf.old) (S.faults shelf.new)
         (change O.written O.faults out.old out.new) (change R.written R.faults report.old report.new) result }
 
-    // Where a run ended, its output is that of the text with its pragmas erased, up to the first fault or rule in program order.
+    // Where a run ended, its output, report and status are a verdict's, and that of the text with its pragmas erased, up to the first
+    // fault or rule in program order.
     ensures headline { (request : Request) (text : List ℕ) → Asks whole words.now request → request.command ≡ Run
         → S.file shelf.old request.file ≡ Some text → IsOfRun result
-        → (bytes : List ℕ) × Got (change O.written O.faults out.old out.new) bytes × IsErasedOutput request.limits text bytes }
+        → (a : Answer) × (result ≡ a.status) × Got (change O.written O.faults out.old out.new) a.out
+        × Got (change R.written R.faults report.old report.new) a.report × IsErasedRun request.limits text a }
 {
     let _rt = rt;
     let _gate = gate;
@@ -92,6 +96,7 @@ where
     // Clauses that compare a call's answer with another one rest on there being no other, and the headline on the laws of erasing.
     one_answer();
     erased_texts_spell_the_unmarked();
+    points_are_the_erased_programs();
     verdict_is_the_erased_programs();
     answer_words(alloc, words, &BUILT, shelf, out, report)
 }

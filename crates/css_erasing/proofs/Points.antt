@@ -1,36 +1,29 @@
 -- Points of a dialogue, and images.
-use Rattle.std.proofs.Common.{◌≡◌, inl, inr, ℕ, ◌≤◌, ◌==◌, ℤ, Bool, true, false, Option, Some, None, All, if◌then◌else◌, cond, List, [], ◌∷◌, ◌++◌, refl, sym, ap, ◌∙◌, subst, append_assoc}
+use Rattle.std.proofs.Common.{◌≡◌, ℕ, ◌≤◌, ◌==◌, ℤ, Bool, true, false, Option, Some, None, All, if◌then◌else◌, List, [], ◌∷◌, ◌++◌, map, refl, sym, ap, ap₂, ◌∙◌, subst, append_assoc}
 use Rattle.std.specs.Prelude.{find}
-use Rattle.std.proofs.lemmas.Bool.{eqb-true}
 use Rattle.std.proofs.lemmas.Option.{same_Some}
+use Rattle.std.proofs.lemmas.List.{map-append}
 use Rattle.std.proofs.lemmas.List.Elements.{All-append, All-from_recursion}
 use Rattle.css_base.specs.declared.limits.Limits.{Limits}
 use Rattle.css_base.specs.declared.ending.Stop.TheVariants as stops
-use Rattle.css_semantics.specs.Dialogue.{Action, Finish, Barrier, Wait, Tape, Outcome, Goes, Stops, Stopped, Tired, tape_of}
+use Rattle.css_semantics.specs.Actions.{Directive, Starting, Finishing, AtBarrier, WaitingOn, NoDirective, directive_of}
+use Rattle.css_semantics.specs.Dialogue.{Tape, Outcome, Goes, Stops, Stopped, Tired, tape_of}
 use Rattle.css_semantics.specs.Memory.{Memory, image, memory_after}
 use Rattle.css_semantics.specs.Flat.{no_frames, flat}
-use Rattle.css_semantics.specs.Tasks.{is_started}
+use Rattle.css_semantics.specs.Tasks.{Window, is_started}
 use Rattle.css_semantics.specs.Pending.{Object, pending}
-use Rattle.css_semantics.specs.Verdict.{ImageKind, OfBarrier, OfFinish, OfWait, Image, bytes_of_window, images_by, images, Verdict, verdict, judged_in}
+use Rattle.css_semantics.specs.Verdict.{ImageKind, OfBarrier, OfFinish, OfWait, Image, bytes_of_window, images_at, images, Verdict, verdict, judged_in}
 use Rattle.css_small.specs.Tree.{Program}
 use Rattle.css_small_code.specs.Meaning.{source}
 use Rattle.css_small_code.specs.Fuel.{Extends}
 use Rattle.css_small_code.proofs.MoreFuel.{extends_source}
 use Rattle.css_erasing.specs.Unmarked.{unmarked}
 use Rattle.css_erasing.specs.Plain.{plain, entries}
-use Rattle.css_erasing.specs.Erased.{IsPassed, IsErased, IsImageOf, IsSeen}
+use Rattle.css_erasing.specs.Erased.{IsPassed, IsErased}
+use Rattle.css_erasing.specs.Points.{Point, points_at, points, erased_image}
 use Rattle.css_erasing.proofs.Tapes.{plain_append, same_memory}
 use Rattle.css_erasing.proofs.Programs.{erased_source}
 use Rattle.css_erasing.proofs.Verdicts.{grown}
-
--- what a search finds passes its test
-find_passes : {X : Type 0} (test : X → Bool) (xs : List X) (x : X) → find test xs ≡ Some x → test x ≡ true
-find_passes test [] x h = absurd cc
-find_passes {X} test (y ∷ xs) x h = by (test y) refl h (find_passes test xs x)
-  where
-    by : (b : Bool) → test y ≡ b → cond b (Some y) (find test xs) ≡ Some x → (find test xs ≡ Some x → test x ≡ true) → test x ≡ true
-    by true e h later = let same : y ≡ x = cc in subst (λ z. test z ≡ true) same e
-    by false e h later = later h
 
 -- ---- points
 
@@ -61,45 +54,79 @@ passed limits fuel enough n p newer tape e few le =
 
 -- ---- images
 
-module _ (start : Memory) (erased : Tape) where
-  none_seen : All (IsSeen start erased) []
-  none_seen = All-from_recursion (IsSeen start erased) [] tt
+abbrev image_with : ImageKind → ℕ → ℕ → List ℕ → Image
+image_with kind line address bytes = record { kind = kind; line = line; address = address; bytes = bytes }
 
-  seen : (i : Image) (tape : Tape) → IsPassed tape erased → IsImageOf (memory_after start tape) i → All (IsSeen start erased) (i ∷ [])
-  seen i tape h is = All-from_recursion (IsSeen start erased) (i ∷ []) ((h.0, plain tape, h.1, subst (λ m. IsImageOf m i) (sym (same_memory start tape)) is), tt)
+abbrev point_with : Tape → ImageKind → ℕ → ℕ → Option Window → Point
+point_with tape kind line address window = record { before = tape; kind = kind; line = line; address = address; window = window }
 
-  whole_seen : (b : Bool) (kind : ImageKind) (line : ℕ) (tape : Tape) → IsPassed tape erased → All (IsSeen start erased) (if b then record { kind = kind; line = line; address = 0; bytes = image (memory_after start tape) } ∷ [] else [])
-  whole_seen true kind line tape h = seen _ tape h (inl (refl, refl))
-  whole_seen false kind line tape h = none_seen
+module _ (start : Memory) where
+  whole_images : (b : Bool) (kind : ImageKind) (line : ℕ) (tape : Tape)
+      → (if b then image_with kind line 0 (image (memory_after start tape)) ∷ [] else []) ≡ map (erased_image start) (if b then point_with tape kind line 0 None ∷ [] else [])
+  whole_images true kind line tape = ap (λ m. image_with kind line 0 (image m) ∷ []) (sym (same_memory start tape))
+  whole_images false kind line tape = refl
 
-  wait_seen : (o : Option Object) (line address : ℕ) (tape : Tape) → IsPassed tape erased → ((x : Object) → o ≡ Some x → x.window.base ≡ address) → All (IsSeen start erased) (elim o [
-    | None ↦ []
-    | Some o ↦ record { kind = OfWait; line = line; address = address; bytes = bytes_of_window (memory_after start tape) o.window } ∷ []
-  ])
-  wait_seen None line address tape h base = none_seen
-  wait_seen (Some o) line address tape h base = seen _ tape h (inr (o.window, base o refl, refl))
+  wait_images : (o : Option Object) (line address : ℕ) (tape : Tape)
+      → elim o [ None ↦ [] | Some o ↦ image_with OfWait line address (bytes_of_window (memory_after start tape) o.window) ∷ [] ]
+      ≡ map (erased_image start) (elim o [ None ↦ [] | Some o ↦ point_with tape OfWait line address (Some o.window) ∷ [] ])
+  wait_images None line address tape = refl
+  wait_images (Some o) line address tape = ap (λ m. image_with OfWait line address (bytes_of_window m o.window) ∷ []) (sym (same_memory start tape))
 
-  seen_by : (action : Action) (line : ℕ) (tape : Tape) → IsPassed tape erased → All (IsSeen start erased) (images_by start tape action line)
-  seen_by Barrier line tape h = whole_seen (is_started tape) OfBarrier line tape h
-  seen_by Finish line tape h = whole_seen (is_started tape) OfFinish line tape h
-  seen_by (Wait address) line tape h =
-      wait_seen (find (λ (o : Object). o.window.base == address) (pending tape)) line address tape h
-      (λ x e. eqb-true x.window.base address (find_passes (λ (o : Object). o.window.base == address) (pending tape) x e))
-  seen_by action line tape h = none_seen
+  images_here : (tape : Tape) (directive : Directive) (line : ℕ) → images_at start tape directive line ≡ map (erased_image start) (points_at tape directive line)
+  images_here tape Starting line = refl
+  images_here tape Finishing line = whole_images (is_started tape) OfFinish line tape
+  images_here tape AtBarrier line = whole_images (is_started tape) OfBarrier line tape
+  images_here tape (WaitingOn address) line = wait_images (find (λ (o : Object). o.window.base == address) (pending tape)) line address tape
+  images_here tape NoDirective line = refl
 
-  all_seen : (tape : Tape) → IsPassed tape erased → All (IsSeen start erased) (images start tape)
-  all_seen [] h = none_seen
-  all_seen (i ∷ tape) h =
+  -- all images are those at the points, in order
+  all_images : (tape : Tape) → images start tape ≡ map (erased_image start) (points tape)
+  all_images [] = refl
+  all_images (i ∷ tape) =
+      ap₂ (λ xs ys. xs ++ ys) (all_images tape) (images_here tape (directive_of i.action) i.line)
+      ∙ sym (map-append (erased_image start) (points tape) (points_at tape (directive_of i.action) i.line))
+
+  pub verdict_images : (o : Outcome ℤ) (v : Verdict) → verdict start o ≡ Some v → v.images ≡ map (erased_image start) (points (tape_of o))
+  verdict_images (Goes value tape) v e = subst (λ (x : Verdict). x.images ≡ map (erased_image start) (points tape)) (same_Some _ v e) (all_images tape)
+  verdict_images (Stops (Stopped stop line) tape) v e = subst (λ (x : Verdict). x.images ≡ map (erased_image start) (points tape)) (same_Some _ v e) (all_images tape)
+  verdict_images (Stops Tired tape) v e = cc
+
+-- ---- the points of images
+
+module _ (erased : Tape) where
+  abbrev IsAlong : Point → Type 0
+  IsAlong p = IsPassed p.before erased
+
+  none_along : All IsAlong []
+  none_along = All-from_recursion IsAlong [] tt
+
+  one_along : (p : Point) → IsAlong p → All IsAlong (p ∷ [])
+  one_along p h = All-from_recursion IsAlong (p ∷ []) (h, tt)
+
+  whole_along : (b : Bool) (kind : ImageKind) (line : ℕ) (tape : Tape) → IsPassed tape erased → All IsAlong (if b then point_with tape kind line 0 None ∷ [] else [])
+  whole_along true kind line tape h = one_along (point_with tape kind line 0 None) h
+  whole_along false kind line tape h = none_along
+
+  wait_along : (o : Option Object) (line address : ℕ) (tape : Tape) → IsPassed tape erased
+      → All IsAlong (elim o [ None ↦ [] | Some o ↦ point_with tape OfWait line address (Some o.window) ∷ [] ])
+  wait_along None line address tape h = none_along
+  wait_along (Some o) line address tape h = one_along (point_with tape OfWait line address (Some o.window)) h
+
+  along_here : (tape : Tape) (directive : Directive) (line : ℕ) → IsPassed tape erased → All IsAlong (points_at tape directive line)
+  along_here tape Starting line h = none_along
+  along_here tape Finishing line h = whole_along (is_started tape) OfFinish line tape h
+  along_here tape AtBarrier line h = whole_along (is_started tape) OfBarrier line tape h
+  along_here tape (WaitingOn address) line h = wait_along (find (λ (o : Object). o.window.base == address) (pending tape)) line address tape h
+  along_here tape NoDirective line h = none_along
+
+  all_along : (tape : Tape) → IsPassed tape erased → All IsAlong (points tape)
+  all_along [] h = none_along
+  all_along (i ∷ tape) h =
       let older = passed_older (i ∷ tape) (i ∷ []) tape erased refl h in
-      All-append (IsSeen start erased) (images start tape) (images_by start tape i.action i.line) (all_seen tape older) (seen_by i.action i.line tape older)
+      All-append IsAlong (points tape) (points_at tape (directive_of i.action) i.line) (all_along tape older) (along_here tape (directive_of i.action) i.line older)
 
-  seen_in : (o : Outcome ℤ) (v : Verdict) → verdict start o ≡ Some v → IsPassed (tape_of o) erased → All (IsSeen start erased) v.images
-  seen_in (Goes value tape) v e h = subst (λ (x : Verdict). All (IsSeen start erased) x.images) (same_Some _ v e) (all_seen tape h)
-  seen_in (Stops (Stopped stop line) tape) v e h = subst (λ (x : Verdict). All (IsSeen start erased) x.images) (same_Some _ v e) (all_seen tape h)
-  seen_in (Stops Tired tape) v e h = cc
-
-pub erased_images : (limits : Limits) (fuel enough n : ℕ) (p : Program) (v : Verdict) → verdict (no_frames limits.memory) (source (judged_in limits) fuel p) ≡ Some v → entries (tape_of (source (judged_in limits) fuel p)) ≤ n → fuel ≤ enough →
-    All (IsSeen (no_frames limits.memory) (tape_of (source (flat limits.memory n) enough (unmarked p)))) v.images
-erased_images limits fuel enough n p v e few le =
-    let o = source (judged_in limits) fuel p in
-    seen_in (no_frames limits.memory) (tape_of (source (flat limits.memory n) enough (unmarked p))) o v e (passed limits fuel enough n p [] (tape_of o) refl few le)
+pub passed_points : (limits : Limits) (fuel enough n : ℕ) (p : Program) → entries (tape_of (source (judged_in limits) fuel p)) ≤ n → fuel ≤ enough →
+    All (λ (point : Point). IsPassed point.before (tape_of (source (flat limits.memory n) enough (unmarked p)))) (points (tape_of (source (judged_in limits) fuel p)))
+passed_points limits fuel enough n p few le =
+    let tape = tape_of (source (judged_in limits) fuel p) in
+    all_along (tape_of (source (flat limits.memory n) enough (unmarked p))) tape (passed limits fuel enough n p [] tape refl few le)

@@ -6,7 +6,7 @@ use Rattle.css_tree.specs.Marks as marks
 use Rattle.css_small.specs.Tree.{Expression, Statement, Initialise, Assign, AssignElement, Call, Mark, Put, Return, Block, If, IfElse, While, Statements, More, is_directive, Program}
 use Rattle.css_small.specs.Names.{Names, in_main, in_function, with_object, variable_of, is_in_main, function_of, is_fresh, may_declare, may_define}
 use Rattle.css_small.specs.Trees.{both, where_true, names_parameter, expression_of, assignment_of, address_of, call_of, effect_of, kinds_of, directive_of, statement_of, statements_of, is_empty, is_int, is_void, is_none, is_void_alone, declared, with_value, variable, item_of, behind, items_of, behind_all, with_body, body_of, is_task_of, pointer_of, function_with, function_behind, main_behind, main_alone, with_function, program_behind, program_of}
-use Rattle.css_small.proofs.Parts.{of_any_both, of_where, of_if, of_any_map, of_then}
+use Rattle.css_small.proofs.PutTogether.{of_any_both, of_where, of_if, of_any_map, of_then}
 use Rattle.css_erasing.specs.Unmarked.{unmarked_statement, unmarked_statements, unmarked_function, unmarked}
 
 -- ---- parts that are put together
@@ -37,33 +37,33 @@ same_follows (Some a) = refl
 -- ---- statements that are no directives
 
 -- It is no directive, and has none in it.
-abbrev IsPlain : Statement → Type 0
-IsPlain s = (is_directive s ≡ false) × (unmarked_statement s ≡ s)
+abbrev IsNoDirective : Statement → Type 0
+IsNoDirective s = (is_directive s ≡ false) × (unmarked_statement s ≡ s)
 
 module _ (names : Names) where
-  assignment_plain : (line : ℕ) (place value : syntax.Expression) → IfSome (assignment_of names line place value) IsPlain
-  assignment_plain line (syntax.Name at name) value = of_any_both (Assign line) IsPlain (λ a b. (refl, refl)) (variable_of names name) (expression_of names value)
+  assignment_plain : (line : ℕ) (place value : syntax.Expression) → IfSome (assignment_of names line place value) IsNoDirective
+  assignment_plain line (syntax.Name at name) value = of_any_both (Assign line) IsNoDirective (λ a b. (refl, refl)) (variable_of names name) (expression_of names value)
   assignment_plain line (syntax.Index at array index) value =
-      of_where IsPlain (names_parameter names array) (both (AssignElement line) (expression_of names index) (expression_of names value))
-      (λ is. of_any_both (AssignElement line) IsPlain (λ a b. (refl, refl)) (expression_of names index) (expression_of names value))
+      of_where IsNoDirective (names_parameter names array) (both (AssignElement line) (expression_of names index) (expression_of names value))
+      (λ is. of_any_both (AssignElement line) IsNoDirective (λ a b. (refl, refl)) (expression_of names index) (expression_of names value))
   assignment_plain line place value = tt
 
-  call_plain : (line : ℕ) (name : List ℕ) (argument : syntax.Expression) → IfSome (call_of names line name argument) IsPlain
+  call_plain : (line : ℕ) (name : List ℕ) (argument : syntax.Expression) → IfSome (call_of names line name argument) IsNoDirective
   call_plain line name argument =
-      of_if IsPlain (bytes_eq name (codes "putchar")) (where_true (is_in_main names) (option_map (Put line) (expression_of names argument))) (both (Call line) (function_of names name) (address_of names argument))
-      (of_where IsPlain (is_in_main names) (option_map (Put line) (expression_of names argument)) (λ is. of_any_map (Put line) IsPlain (λ a. (refl, refl)) (expression_of names argument)))
-      (of_any_both (Call line) IsPlain (λ a b. (refl, refl)) (function_of names name) (address_of names argument))
+      of_if IsNoDirective (bytes_eq name (codes "putchar")) (where_true (is_in_main names) (option_map (Put line) (expression_of names argument))) (both (Call line) (function_of names name) (address_of names argument))
+      (of_where IsNoDirective (is_in_main names) (option_map (Put line) (expression_of names argument)) (λ is. of_any_map (Put line) IsNoDirective (λ a. (refl, refl)) (expression_of names argument)))
+      (of_any_both (Call line) IsNoDirective (λ a b. (refl, refl)) (function_of names name) (address_of names argument))
 
-  effect_plain : (line : ℕ) (e : syntax.Expression) → IfSome (effect_of names line e) IsPlain
+  effect_plain : (line : ℕ) (e : syntax.Expression) → IfSome (effect_of names line e) IsNoDirective
   effect_plain line (syntax.Assign at place assignments.Assign value) = assignment_plain line place value
   effect_plain line (syntax.Call at name (syntax.More argument syntax.End)) = call_plain line name argument
   effect_plain line e = tt
 
-  return_plain : (line : ℕ) (e : syntax.Expression) → IfSome (where_true (is_in_main names) (option_map (Return line) (expression_of names e))) IsPlain
+  return_plain : (line : ℕ) (e : syntax.Expression) → IfSome (where_true (is_in_main names) (option_map (Return line) (expression_of names e))) IsNoDirective
   return_plain line e =
-      of_where IsPlain (is_in_main names) (option_map (Return line) (expression_of names e)) (λ is. of_any_map (Return line) IsPlain (λ a. (refl, refl)) (expression_of names e))
+      of_where IsNoDirective (is_in_main names) (option_map (Return line) (expression_of names e)) (λ is. of_any_map (Return line) IsNoDirective (λ a. (refl, refl)) (expression_of names e))
 
-plain_follows : (part : Option Statement) → IfSome part IsPlain → Follows unmarked_statement part part
+plain_follows : (part : Option Statement) → IfSome part IsNoDirective → Follows unmarked_statement part part
 plain_follows None p = tt
 plain_follows (Some s) p = ap Some (sym p.1)
 
@@ -74,7 +74,7 @@ branches line e s other = both (λ (f : Statement → Statement) (t : Statement)
 abbrev IsStated : Statement → Type 0
 IsStated s = is_directive s ≡ false
 
-plain_stated : (part : Option Statement) → IfSome part IsPlain → IfSome part IsStated
+plain_stated : (part : Option Statement) → IfSome part IsNoDirective → IfSome part IsStated
 plain_stated None p = tt
 plain_stated (Some s) p = p.0
 
@@ -154,18 +154,18 @@ module _ (names : Names) where
 
 -- ---- bodies
 
-value_plain : (names : Names) (line k : ℕ) (value : Option syntax.Initialiser) → IfSome (with_value names line k value) IsPlain
+value_plain : (names : Names) (line k : ℕ) (value : Option syntax.Initialiser) → IfSome (with_value names line k value) IsNoDirective
 value_plain names line k None = (refl, refl)
-value_plain names line k (Some (syntax.Value e)) = of_any_map (Initialise line k) IsPlain (λ a. (refl, refl)) (expression_of names e)
+value_plain names line k (Some (syntax.Value e)) = of_any_map (Initialise line k) IsNoDirective (λ a. (refl, refl)) (expression_of names e)
 value_plain names line k (Some other) = tt
 
-variable_plain : (names : Names) (line : ℕ) (x : syntax.Declarator) → IfSome (variable names line x) IsPlain
+variable_plain : (names : Names) (line : ℕ) (x : syntax.Declarator) → IfSome (variable names line x) IsNoDirective
 variable_plain names line x =
-    of_where IsPlain (may_declare names x.name) (with_value (with_object names x.name) line (length names.objects) x.initialiser)
+    of_where IsNoDirective (may_declare names x.name) (with_value (with_object names x.name) line (length names.objects) x.initialiser)
     (λ is. value_plain (with_object names x.name) line (length names.objects) x.initialiser)
 
-declared_plain : (names : Names) (d : syntax.Declaration) → IfSome (item_of names (syntax.Declared d)) IsPlain
-declared_plain names d = of_then (variable names d.line) IsPlain (variable_plain names d.line) (declared d)
+declared_plain : (names : Names) (d : syntax.Declaration) → IfSome (item_of names (syntax.Declared d)) IsNoDirective
+declared_plain names d = of_then (variable names d.line) IsNoDirective (variable_plain names d.line) (declared d)
 
 items_follow : (entries : syntax.Entries) (names : Names) → Follows unmarked_statements (items_of names entries) (items_of names (marks.unmarked_entries entries))
 items_follow syntax.NoEntries names = refl

@@ -1,12 +1,9 @@
 -- What comes of a program without its directives, by what comes of the program under the rules.
-use Rattle.std.specs.Prelude.{◌≡◌, ◌⊎◌, ℕ, ℤ, List, ◌++◌}
+use Rattle.std.specs.Prelude.{◌≡◌, ℕ, ℤ, List, ◌++◌}
 use Rattle.css_base.specs.declared.ending.Stop.TheVariants as stops
 use Rattle.css_base.specs.declared.ending.Ending.{Ending}
 use Rattle.css_base.specs.declared.ending.Ending.TheVariants as endings
 use Rattle.css_semantics.specs.Dialogue.{Tape, Outcome, Goes, Stops, Stopped, Tired, tape_of, output}
-use Rattle.css_semantics.specs.Memory.{Memory, image, memory_after}
-use Rattle.css_semantics.specs.Tasks.{Window}
-use Rattle.css_semantics.specs.Verdict.{Image, bytes_of_window}
 use Rattle.css_erasing.specs.Plain.{plain}
 
 -- a tape has the plain tape of another behind it, and maybe more
@@ -28,11 +25,3 @@ Answers (endings.Result value) written erased = (tape : Tape) × (erased ≡ Goe
 Answers (endings.Stopped (stops.Fault kind) line who) written erased =
     (tape : Tape) × (erased ≡ Stops (Stopped (stops.Fault kind) line) tape) × (output tape ≡ written)
 Answers (endings.Stopped (stops.Rule rule) line who) written erased = (later : List ℕ) × (output (tape_of erased) ≡ written ++ later)
-
--- an image is of a memory: it has all live bytes, or those of a window at the address that was waited for
-abbrev pub IsImageOf : Memory → Image → Type 0
-IsImageOf m i = ((i.address ≡ 0) × (i.bytes ≡ image m)) ⊎ ((w : Window) × (w.base ≡ i.address) × (i.bytes ≡ bytes_of_window m w))
-
--- it is of the memory at some point of the erased program's tape
-abbrev pub IsSeen : Memory → (erased : Tape) → Image → Type 0
-IsSeen start erased i = (newer older : Tape) × (erased ≡ newer ++ older) × IsImageOf (memory_after start older) i

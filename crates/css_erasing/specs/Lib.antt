@@ -1,3 +1,4 @@
 pub mod Unmarked
 pub mod Plain
 pub mod Erased
+pub mod Points

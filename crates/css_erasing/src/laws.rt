@@ -1,5 +1,5 @@
 //! Laws between a program under the rules and the program without its directives. Each is what the contract of an empty function says.
-ghost use Rattle.std.specs.Prelude.{◌≡◌, ◌≤◌, ◌++◌, ℕ, false, Some, List, All};
+ghost use Rattle.std.specs.Prelude.{◌≡◌, ◌≤◌, ◌++◌, ℕ, false, Some, List, All, map};
 ghost use Rattle.css_base.specs.declared.limits.Limits.{Limits};
 ghost use Rattle.css_lexemes.specs.Lines.{erased};
 ghost use Rattle.css_semantics.specs.Dialogue.{Tape, Stops, Tired, tape_of, output};
@@ -13,7 +13,8 @@ ghost use Rattle.css_small_code.specs.Meaning.{source};
 ghost use Rattle.css_small_code.specs.Marks.{HasNoDirectives};
 ghost use Rattle.css_erasing.specs.Unmarked.{unmarked};
 ghost use Rattle.css_erasing.specs.Plain.{plain, entries};
-ghost use Rattle.css_erasing.specs.Erased.{IsPassed, IsErased, Answers, IsSeen};
+ghost use Rattle.css_erasing.specs.Erased.{IsPassed, IsErased, Answers};
+ghost use Rattle.css_erasing.specs.Points.{Point, points, erased_image};
 
 use css_erased_text::erasing_twice_is_once;
 use css_small::one_reading;
@@ -32,16 +33,15 @@ pub fn verdict_is_the_erased_programs()
     ensures by_any { (limits : Limits) (fuel other n : ℕ) (p : Program) (v : Verdict) → verdict (no_frames limits.memory) (source (judged_in limits) fuel p) ≡ Some v → entries (tape_of (source (judged_in limits) fuel p)) ≤ n → ((tape : Tape) → source (flat limits.memory n) other (unmarked p) ≡ Stops Tired tape → ⊥) → Answers v.ending v.output (source (flat limits.memory n) other (unmarked p)) }
 {}
 
-/// Each point of the program's dialogue is one of the erased program's, with the same memory and the same output behind it.
+/// Each point of the program's dialogue is one of the erased program's, with the same memory and the same output behind it. The images
+/// of a verdict are taken at such points, in order: the k-th is of the erased program's memory at the k-th, of all its live bytes or of
+/// the window that is pending there.
 pub fn points_are_the_erased_programs()
     ensures passed { (limits : Limits) (fuel enough n : ℕ) (p : Program) (newer tape : Tape) → tape_of (source (judged_in limits) fuel p) ≡ newer ++ tape → entries (tape_of (source (judged_in limits) fuel p)) ≤ n → fuel ≤ enough → IsPassed tape (tape_of (source (flat limits.memory n) enough (unmarked p))) }
     ensures memory { (start : Memory) (tape : Tape) → memory_after start (plain tape) ≡ memory_after start tape }
     ensures written { (tape : Tape) → output (plain tape) ≡ output tape }
-{}
-
-/// Each image of the verdict is of the erased program's memory at a point of its dialogue.
-pub fn images_are_the_erased_programs()
-    ensures { (limits : Limits) (fuel enough n : ℕ) (p : Program) (v : Verdict) → verdict (no_frames limits.memory) (source (judged_in limits) fuel p) ≡ Some v → entries (tape_of (source (judged_in limits) fuel p)) ≤ n → fuel ≤ enough → All (IsSeen (no_frames limits.memory) (tape_of (source (flat limits.memory n) enough (unmarked p)))) v.images }
+    ensures images { (limits : Limits) (fuel : ℕ) (p : Program) (v : Verdict) → verdict (no_frames limits.memory) (source (judged_in limits) fuel p) ≡ Some v → v.images ≡ map (erased_image (no_frames limits.memory)) (points (tape_of (source (judged_in limits) fuel p))) }
+    ensures points { (limits : Limits) (fuel enough n : ℕ) (p : Program) → entries (tape_of (source (judged_in limits) fuel p)) ≤ n → fuel ≤ enough → All (λ (point : Point). IsPassed point.before (tape_of (source (flat limits.memory n) enough (unmarked p)))) (points (tape_of (source (judged_in limits) fuel p))) }
 {}
 
 /// No directive stands in the program without its directives, and a program without directives is that already. Numbers stay

@@ -1,7 +1,9 @@
 -- A text's lines and pieces, and what it spells or breaks.
-use Rattle.std.proofs.Common.{◌≡◌, ℕ, ◌≤◌, inl, inr, List, [], ◌∷◌, length, map, refl, sym, ap, ap₂, ◌∙◌, arith, All, Some, None, option_map}
+use Rattle.std.proofs.Common.{◌≡◌, ◌⊎◌, ℕ, ◌<◌, ◌≤◌, inl, inr, List, [], ◌∷◌, length, map, refl, sym, ap, ap₂, ◌∙◌, arith, All, Option, Some, None, option_map}
+use Rattle.std.proofs.lemmas.Bool.{cases_lt}
 use Rattle.std.proofs.lemmas.List.Elements.{All-nil, All-cons, All-head, All-tail}
 use Rattle.css_base.specs.declared.static_fault.StaticFault.{StaticFault}
+use Rattle.css_base.specs.declared.static_fault.StaticName.TheVariants as names
 use Rattle.css_base.specs.Tokens.{Lexeme}
 use Rattle.css_lex.specs.declared.breach.Breach.{Breach}
 use Rattle.css_lexemes.specs.Lines.{LogicalLine, logical_lines}
@@ -80,3 +82,20 @@ one_refusal text this that (inl a) (inr b) = let s = b.short in absurd (omega (a
 one_refusal text this that (inr a) (inl b) = let s = a.short in absurd (omega (arith, s, b.0))
 one_refusal text this that (inr a) (inr b) =
     let e : Some this ≡ Some that = sym a.broken ∙ (same_refusal text a.lines a.reads ∙ (sym (same_refusal text b.lines b.reads) ∙ b.broken)) in cc
+
+-- ---- each text has tokens or a refusal
+
+abbrev LexedOrRefused : List ℕ → Type 0
+LexedOrRefused text = ((tokens : List Lexeme) × SpellsTokens text tokens) ⊎ ((fault : StaticFault) × IsRefused text fault)
+
+by_refusal : (text : List ℕ) → length text ≤ longest_text → (found : Option StaticFault) → refusal text (read_lines text) ≡ found → LexedOrRefused text
+by_refusal text short None is =
+    inl (tokens_of_lines text (read_lines text), record { lines = read_lines text; short = short; reads = is_read text; unbroken = is; tokens_are = refl })
+by_refusal text short (Some fault) is = inr (fault, inr (record { lines = read_lines text; short = short; reads = is_read text; broken = is }))
+
+by_length : (text : List ℕ) → (longest_text < length text) ⊎ (length text ≤ longest_text) → LexedOrRefused text
+by_length text (inl long) = inr (record { name = names.TooLong; line = 1 }, inl (long, refl))
+by_length text (inr short) = by_refusal text short (refusal text (read_lines text)) refl
+
+pub lexed_or_refused : (text : List ℕ) → LexedOrRefused text
+lexed_or_refused text = by_length text (cases_lt longest_text (length text))

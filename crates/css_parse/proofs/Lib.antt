@@ -12,7 +12,7 @@ pub mod Ends
 pub mod OneItem
 pub mod GatheredWords
 pub mod GatheredParts
-pub mod Rows
+pub mod AsLists
 pub mod Blocks
 pub mod WordTexts
 pub mod FormKinds
@@ -25,6 +25,7 @@ pub mod Sound
 pub mod Complete
 pub mod Programs
 pub mod Outcomes
+pub mod Neither
 pub mod Rules
 pub mod Balance
 pub mod NoDeclaration

@@ -97,7 +97,7 @@ one_refusal ts f g (inr (inr a)) (inl b) = absurd (some_lines (unsupported_lines
 one_refusal ts f g (inr (inr a)) (inr (inl b)) = absurd (shallow_deep ts g.line a.2 b.2)
 one_refusal ts f g (inr (inr a)) (inr (inr b)) = same_fault f g (a.0 ∙ sym b.0) (one_unspelled ts f.line g.line a.3 b.3)
 
-pub refused_or_accepted : (ts : List Lexeme) (tree : Tree) (f : StaticFault) → IsAccepted ts tree → IsRefused ts f → ⊥
-refused_or_accepted ts tree f a (inl r) = some_lines (unsupported_lines ts) f.line r.1 a.supported
-refused_or_accepted ts tree f a (inr (inl r)) = shallow_deep ts f.line a.shallow r.2
-refused_or_accepted ts tree f a (inr (inr r)) = spelled_whole ts tree f.line a.spells r.3
+pub never_both : (ts : List Lexeme) (tree : Tree) (f : StaticFault) → IsAccepted ts tree → IsRefused ts f → ⊥
+never_both ts tree f a (inl r) = some_lines (unsupported_lines ts) f.line r.1 a.supported
+never_both ts tree f a (inr (inl r)) = shallow_deep ts f.line a.shallow r.2
+never_both ts tree f a (inr (inr r)) = spelled_whole ts tree f.line a.spells r.3

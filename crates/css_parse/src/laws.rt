@@ -31,8 +31,13 @@ pub fn one_refusal()
 {}
 
 /// Tokens that are accepted aren't refused.
-pub fn accepted_or_refused()
+pub fn never_both()
     ensures { (tokens : List Lexeme) (tree : Tree) (f : StaticFault) → IsAccepted tokens tree → IsRefused tokens f → ⊥ }
+{}
+
+/// No tokens are neither accepted nor refused.
+pub fn never_neither()
+    ensures { (tokens : List Lexeme) → ((tree : Tree) → IsAccepted tokens tree → ⊥) → ((f : StaticFault) → IsRefused tokens f → ⊥) → ⊥ }
 {}
 
 /// A spelled program leaves no bracket open, and closes none that was open before it.

@@ -21,7 +21,7 @@ mod unsupported;
 mod words;
 
 pub use laws::{
-    accepted_or_refused, balanced_brackets, items_end_by_themselves, one_refusal, one_tree,
+    balanced_brackets, items_end_by_themselves, never_both, never_neither, one_refusal, one_tree,
     token_behind,
 };
 pub use program::parse;

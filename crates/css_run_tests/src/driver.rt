@@ -1,12 +1,13 @@
-//! Calls of the commands that wait for nobody, over a file, input and sinks in memory: words that no command line has, and files and
-//! sinks that fail.
+//! Calls of the program over a file, input and sinks in memory: words that no command line has, and files and sinks that fail.
 
 use css_base::Words;
-use css_driver::plain_top;
-use css_io::{MemShelf, MemSink, MemSource, read_all};
+use css_driver::{plain_top, top};
+use css_io::{MemShelf, MemSink, MemSource, OpenGate, read_all};
 use std::alloc::{AllocError, Global};
 use std::process::Abort;
+use std::sync::Wait;
 use std::test::Fail;
+use std::thread::Threads;
 
 const PUT_A_AND_B: &str = "int main(void) { putchar(97); putchar(98); return 0; }";
 
@@ -47,7 +48,42 @@ fn words_of(alloc: Global, words: &[&str]) -> Result<Words, AllocError> {
     Ok(Words::new(owned))
 }
 
-/// Calls the program with these words and one file, and sees that no input was taken.
+/// Runs a program, by the call of the whole program.
+fn run<H: AllocGlobal + Threads + Wait + Clone + Drop + Send + Sync + 'static>(
+    rt: &H,
+    text: &str,
+    failing: &Failing,
+) -> Result<Called, Fail> {
+    let alloc = rt.alloc();
+    let files = vec![in alloc;
+        (
+            String::from_str(alloc, "f.c")?,
+            text.as_bytes().to_vec(alloc)?
+        ),
+    ]?;
+    let mut shelf = MemShelf::new(files, failing.shelf.to_vec(alloc)?);
+    let mut input = MemSource::new(Vec::new(alloc), Vec::new(alloc));
+    let mut out = MemSink::new(alloc, failing.out_room, failing.out.to_vec(alloc)?)?;
+    let mut report = MemSink::new(alloc, failing.report_room, failing.report.to_vec(alloc)?)?;
+    let words = words_of(alloc, &["cssrun", "run", "f.c"])?;
+    let status = top(
+        rt,
+        alloc,
+        &words,
+        &mut shelf,
+        &mut input,
+        &mut out,
+        &mut report,
+        OpenGate::new(),
+    );
+    Ok(Called {
+        out,
+        report,
+        status,
+    })
+}
+
+/// Calls a command that waits for nobody with these words and one file, and sees that no input was taken.
 fn call(
     rt: &(impl Abort + AllocGlobal),
     words: &[&str],
@@ -164,6 +200,61 @@ fn failures_cut_a_call_short(rt: HostRuntime) -> Result<(), Fail> {
     };
     let called = call(&rt, &words, COUNTS_TO_3, &out_fails)?;
     expect(&rt, &called, "", "", 7);
+    Ok(())
+}
+
+/// A sink that fails in a run: where `out` does, nothing is reported.
+#[test]
+fn failures_cut_a_run_short(rt: HostRuntime) -> Result<(), Fail> {
+    let rows = [
+        (
+            Failing {
+                out: &[0],
+                ..NOTHING_FAILS
+            },
+            "",
+            "",
+        ),
+        (
+            Failing {
+                out_room: 1,
+                ..NOTHING_FAILS
+            },
+            "a",
+            "",
+        ),
+        (
+            Failing {
+                out: &[0],
+                report: &[0],
+                ..NOTHING_FAILS
+            },
+            "",
+            "",
+        ),
+        (
+            Failing {
+                report: &[0],
+                ..NOTHING_FAILS
+            },
+            "ab",
+            "",
+        ),
+        (
+            Failing {
+                report_room: 3,
+                ..NOTHING_FAILS
+            },
+            "ab",
+            "res",
+        ),
+    ];
+    for (failing, out, report) in &rows {
+        let called = run(&rt, PUT_A_AND_B, failing)?;
+        expect(&rt, &called, out, report, 7);
+    }
+    let called = run(&rt, PUT_A_AND_B, &NOTHING_FAILS)?;
+    expect(&rt, &called, "ab", "result 0\n", 0);
     Ok(())
 }
 

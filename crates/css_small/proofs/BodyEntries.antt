@@ -8,7 +8,7 @@ use Rattle.css_small.specs.declared.tree.Statement as coded
 use Rattle.css_small.specs.Tree.{Statements, More, statement, listed}
 use Rattle.css_small.specs.Names.{Names}
 use Rattle.css_small.specs.Trees.{both, declared, item_of, items_of, with_declared, behind, behind_all}
-use Rattle.css_small.proofs.Rows.{before, before-all, before-more}
+use Rattle.css_small.proofs.StatementRows.{before, before-all, before-more}
 
 -- what is done, before what is left
 abbrev pub on : List coded.Statement → Option Statements → Option Statements

@@ -8,7 +8,7 @@ use Rattle.css_small.specs.declared.tree.Statement.{Statement}
 use Rattle.css_small.specs.Tree.{Statements, More, statement, listed}
 use Rattle.css_small.specs.Names.{Names}
 use Rattle.css_small.specs.Trees.{both, entry_of, statements_of}
-use Rattle.css_small.proofs.Rows.{before, before-all, before-more}
+use Rattle.css_small.proofs.StatementRows.{before, before-all, before-more}
 
 -- what is done, before the statements that the other entries are
 abbrev pub on : Names → List Statement → List Entry → Option Statements

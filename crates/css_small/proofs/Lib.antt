@@ -7,8 +7,8 @@ pub mod Headers
 pub mod Keys
 pub mod Lists
 pub mod ProgramItems
-pub mod Rows
+pub mod StatementRows
 pub mod TaskWords
 pub mod Words
-pub mod Parts
+pub mod PutTogether
 pub mod Numbers

@@ -13,7 +13,7 @@ use Rattle.css_tree.specs.Syntax as syntax
 use Rattle.css_small.specs.Tree.{Expression, Number, Variable, Element, Unary, Statement, Initialise, Assign, AssignElement, Call, Mark, Put, Return, Block, If, IfElse, While, More, Function, Program}
 use Rattle.css_small.specs.Names.{Names, in_main, in_function, with_object, number_of, is_among, behind_parameters, variable_of, is_before, is_in_main, function_of, is_fresh, may_declare, may_define}
 use Rattle.css_small.specs.Trees.{both, where_true, unary_of, joined, names_parameter, expression_of, assignment_of, address_of, call_of, effect_of, kinds_of, directive_of, mark_of, statement_of, statements_of, entry_of, is_empty, is_int, is_void, is_none, is_void_alone, declared, with_value, variable, item_of, with_declared, behind, items_of, behind_all, with_body, body_of, is_task_of, pointer_of, function_with, function_behind, main_behind, main_alone, with_function, program_behind, program_of}
-use Rattle.css_small.proofs.Parts.{always, later, together, of_both, of_where, of_if, of_map, of_any_map, of_then}
+use Rattle.css_small.proofs.PutTogether.{always, later, together, of_both, of_where, of_if, of_map, of_any_map, of_then}
 use Rattle.css_small.specs.Numbers.{Scope, IsVariable, IsWithin, AreWithin, AllWithin, IsNumbered, HasNumbers}
 
 -- ---- names

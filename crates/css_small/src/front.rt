@@ -9,8 +9,8 @@ use crate::functions::program_of;
 use crate::tree;
 use crate::tree_fault::TreeFault;
 use css_base::{FrontFault, Line, StaticFault, StaticName};
-use css_lex::{lex, one_lexing};
-use css_parse::{accepted_or_refused, one_refusal, one_tree, parse};
+use css_lex::{lex, lexed_or_refused, one_lexing};
+use css_parse::{never_both, one_refusal, one_tree, parse};
 use std::alloc::Global;
 
 /// The program that the text spells.
@@ -52,7 +52,15 @@ pub fn one_reading()
     one_lexing();
     one_tree();
     one_refusal();
-    accepted_or_refused();
+    never_both();
+}
+
+/// No text is neither spelled nor refused.
+pub fn never_neither()
+    ensures { (text : List ℕ) → ((p : Program) → Spells text p → ⊥) → ((f : Fault) → IsRefused text f → ⊥) → ⊥ }
+{
+    lexed_or_refused();
+    css_parse::never_neither();
 }
 
 /// The numbers of a program are in their ranges: each function has at most 1,000 variables, its constants have type int, and it

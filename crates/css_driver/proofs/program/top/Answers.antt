@@ -1,6 +1,6 @@
 use Rattle.css_driver.specs.Request.{whole}
 use Rattle.css_driver.proofs.Clauses.{at_two, at_three, at_six, at_seven, at_eight, below_six, at_most_eight, refused_only, smooth_status}
-use Rattle.css_driver.proofs.Headlines.{run_output}
+use Rattle.css_driver.proofs.Headlines.{run_answered}
 use Rattle.css_driver.proofs.Words.{whole_served}
 use Rattle.css_driver.proofs.program.top.Goals as goal
 
@@ -45,5 +45,10 @@ returns-clause-ends g c = c.answer_words.ensures.ends
 
 pub returns-clause-headline : goal.returns-clause-headline
 returns-clause-headline g c = λ request text asks runs.
-    run_output c.verdict_is_the_erased_programs.ensures.by_as_much c.erased_texts_spell_the_unmarked.ensures whole c.args.words.now request asks runs text
-    _ _ _ _ _ _ c.answer_words.ensures.ends
+    run_answered
+    (record {
+      verdicts = c.verdict_is_the_erased_programs.ensures.by_as_much;
+      passed = c.points_are_the_erased_programs.ensures.passed;
+      images = c.points_are_the_erased_programs.ensures.images;
+    })
+    c.erased_texts_spell_the_unmarked.ensures whole c.args.words.now request asks runs text _ _ _ _ _ _ c.answer_words.ensures.ends

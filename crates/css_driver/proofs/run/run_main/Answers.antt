@@ -3,7 +3,7 @@ use Rattle.css_semantics.specs.Flat.{no_frames}
 use Rattle.css_semantics.specs.Units.{with_units}
 use Rattle.css_vm.specs.Code.{code_of}
 use Rattle.css_vm.specs.Machine.{entry_line}
-use Rattle.css_driver.proofs.Parts.{goes_nowhere, goes_further, goes_to_end, ran_whole, fits_begun}
+use Rattle.css_driver.proofs.RunParts.{goes_nowhere, goes_further, goes_to_end, ran_whole, fits_begun}
 use Rattle.css_driver.proofs.run.run_main.Goals as goal
 
 pub loop-ran-init : goal.loop-ran-init

@@ -1,7 +1,7 @@
 use Rattle.css_semantics.specs.Units.{with_units}
 use Rattle.css_vm.specs.Code.{code_of}
 use Rattle.css_main_side.specs.declared.ran.Ran.TheVariants.{NoMemory}
-use Rattle.css_driver.proofs.Parts.{goes_nowhere, goes_further, goes_to_end, gives_up}
+use Rattle.css_driver.proofs.RunParts.{goes_nowhere, goes_further, goes_to_end, gives_up}
 use Rattle.css_driver.proofs.run.run_on.Goals as goal
 
 pub loop-init : goal.loop-init

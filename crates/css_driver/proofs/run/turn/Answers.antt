@@ -3,7 +3,7 @@ use Rattle.css_vm.specs.Code.{code_of}
 use Rattle.css_vm.specs.Due.{due_at}
 use Rattle.css_vm.specs.Events.{IsOwedAt}
 use Rattle.css_vm.proofs.TakenAnswers.{takes_value}
-use Rattle.css_driver.proofs.Parts.{fits_answered, stacked_answered}
+use Rattle.css_driver.proofs.RunParts.{fits_answered, stacked_answered}
 use Rattle.css_main_side.proofs.Sinks.{AppendsPrefix-nothing, AppendsPrefix-front}
 use Rattle.css_driver.proofs.Turns.{output-running, running_ended, running_stopped, turn_out, turn_asked, at_place}
 use Rattle.css_driver.proofs.Unmarked.{no_task, only_asks}

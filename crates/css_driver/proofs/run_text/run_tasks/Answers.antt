@@ -1,10 +1,11 @@
+use Rattle.std.proofs.Common.{refl}
 use Rattle.css_vm.specs.Code.{code_of}
 use Rattle.css_small.specs.Tree.{program}
 use Rattle.css_io.specs.Changes.{change}
 use Rattle.css_main_side.proofs.Sinks.{AppendsPrefix-nothing}
 use Rattle.css_driver.specs.Answer.{HasVerdict, IsTaskAnswer}
 use Rattle.css_driver.proofs.Endings.{ends_no_memory, ends_out_failed}
-use Rattle.css_driver.proofs.TaskRuns.{comes_to_verdict, plain_tasks, task_prefix, task_ended}
+use Rattle.css_driver.proofs.TaskRuns.{verdict_answer, verdict_answer-is, comes_to_verdict, plain_tasks, task_prefix, task_ended}
 use Rattle.css_driver.proofs.run_text.run_tasks.Goals as goal
 
 pub play-requires-clause-plain : goal.play-requires-clause-plain
@@ -29,8 +30,7 @@ returns-in-WriteFault g c =
     let known = c.program_has_verdict.ensures c.args.limits p c.requires.numbers in
     let has : HasVerdict c.args.limits p known.0 = (_, known.1) in
     let ran = c.in-WriteFault.ensures.verdict known.0 (comes_to_verdict c.args.limits code p c.in-Ok.ensures.codes known.0 has) in
-    ends_out_failed (IsTaskAnswer c.args.limits p) _ _ ran.0
-    (task_prefix c.one_verdict.ensures c.args.limits p known.0 has (change g.O.Sink.written g.O.Sink.faults c.args.out.now c.play.new.out) ran.1) (λ bytes. AppendsPrefix-nothing _ bytes)
+    ends_out_failed (IsTaskAnswer c.args.limits p) _ _ ran.0 (verdict_answer known.0) (verdict_answer-is c.args.limits p known.0 has) ran.1 refl refl
 
 pub returns : goal.returns
 returns g c =

@@ -1,5 +1,8 @@
 use Rattle.css_erasing.proofs.Tapes.{same_output, same_memory}
-use Rattle.css_erasing.proofs.Points.{passed}
+use Rattle.css_semantics.specs.Flat.{no_frames}
+use Rattle.css_semantics.specs.Verdict.{judged_in}
+use Rattle.css_small_code.specs.Meaning.{source}
+use Rattle.css_erasing.proofs.Points.{passed, verdict_images, passed_points}
 use Rattle.css_erasing.proofs.laws.points_are_the_erased_programs.Goals as goal
 
 pub returns-clause-passed : goal.returns-clause-passed
@@ -10,3 +13,9 @@ returns-clause-memory c = same_memory
 
 pub returns-clause-written : goal.returns-clause-written
 returns-clause-written c = same_output
+
+pub returns-clause-images : goal.returns-clause-images
+returns-clause-images c limits fuel p v e = verdict_images (no_frames limits.memory) (source (judged_in limits) fuel p) v e
+
+pub returns-clause-points : goal.returns-clause-points
+returns-clause-points c = passed_points

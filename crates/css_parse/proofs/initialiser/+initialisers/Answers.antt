@@ -8,7 +8,7 @@ use Rattle.css_tree.specs.Heights.{height_of_initialiser}
 use Rattle.css_parse.specs.Readings as reads
 use Rattle.css_parse.specs.Readings.{valued, ReadsInitialiser, ReadsParts}
 use Rattle.css_parse.proofs.Exits.{passed}
-use Rattle.css_parse.proofs.Rows.{initialiser-List, joined_parts, joined_parts-append, joined_parts-all}
+use Rattle.css_parse.proofs.AsLists.{initialiser-List, joined_parts, joined_parts-append, joined_parts-all}
 use Rattle.css_parse.proofs.GatheredParts.{one_more_part, no_part, no_end}
 use Rattle.css_parse.proofs.Initials.{front_of, valued_low, no_valued, no_high}
 use Rattle.css_parse.proofs.initialiser.+initialisers.Goals as goal

@@ -2,7 +2,7 @@ use Rattle.std.proofs.Common.{◌≡◌, ◌≤◌, ◌+◌, ◌*◌, length}
 use Rattle.css_base.specs.Tokens.{lexemes}
 use Rattle.css_parse.specs.Readings.{ReadsParts}
 use Rattle.css_parse.proofs.Gathering.{Goes}
-use Rattle.css_parse.proofs.Rows.{joined_parts}
+use Rattle.css_parse.proofs.AsLists.{joined_parts}
 use Rattle.css_parse.proofs.initialiser.+initialisers.Given as goal
 
 abbrev pub decreases-initialiser : goal.decreases-initialiser

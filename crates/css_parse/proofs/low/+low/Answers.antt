@@ -3,7 +3,7 @@ use Rattle.std.proofs.lemmas.Bool.{false≢true}
 use Rattle.css_tree.specs.Shapes.{expression, listed}
 use Rattle.css_tree.specs.Heights.{height_of_arguments}
 use Rattle.css_parse.proofs.Levels.{some_height, low_call}
-use Rattle.css_parse.proofs.Rows.{expression-Call}
+use Rattle.css_parse.proofs.AsLists.{expression-Call}
 use Rattle.css_parse.proofs.low.+low.Goals as goal
 
 pub is_low-returns-then-most-eq0 : goal.is_low-returns-then-most-eq0

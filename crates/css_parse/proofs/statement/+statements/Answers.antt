@@ -12,7 +12,7 @@ use Rattle.std.proofs.lemmas.Bool.{false≢true}
 use Rattle.css_parse.proofs.Exits.{passed, passed_memory, not_some, some_not}
 use Rattle.css_parse.proofs.Initials.{none_of}
 use Rattle.css_parse.proofs.Blocks.{statement-Block}
-use Rattle.css_parse.proofs.Rows.{joined_entries, joined_entries-append, joined_entries-all}
+use Rattle.css_parse.proofs.AsLists.{joined_entries, joined_entries-append, joined_entries-all}
 use Rattle.css_parse.proofs.GatheredParts.{one_more_entry, no_entry}
 use Rattle.css_parse.proofs.NoStatement.{no_formed, no_evaluated, statement_some, statement_level, no_block, no_if, no_if_first, no_else, no_while, no_while_body, no_do, no_do_while, no_do_condition, no_do_end, no_for, no_for_body, no_declared, no_stated}
 use Rattle.css_parse.proofs.statement.+statements.Goals as goal

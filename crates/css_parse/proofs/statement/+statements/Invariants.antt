@@ -2,7 +2,7 @@ use Rattle.std.proofs.Common.{◌≡◌, ◌≤◌, ◌+◌, ◌*◌, length}
 use Rattle.css_base.specs.Tokens.{lexemes}
 use Rattle.css_parse.specs.Readings.{ReadsEntries}
 use Rattle.css_parse.proofs.Gathering.{Goes}
-use Rattle.css_parse.proofs.Rows.{joined_entries}
+use Rattle.css_parse.proofs.AsLists.{joined_entries}
 use Rattle.css_parse.proofs.statement.+statements.Given as goal
 
 abbrev pub decreases-statement : goal.decreases-statement

@@ -65,14 +65,14 @@ module _ (lexed : IsLexedOnce) (parsed : IsParsedOnce) (text : List ℕ) where
 pub returns-clause-program : goal.returns-clause-program
 returns-clause-program c text =
     one_program (record { tokens = c.one_lexing.ensures.tokens; faults = c.one_lexing.ensures.faults; apart = c.one_lexing.ensures.apart })
-    (record { trees = c.one_tree.ensures; faults = c.one_refusal.ensures; apart = c.accepted_or_refused.ensures }) text
+    (record { trees = c.one_tree.ensures; faults = c.one_refusal.ensures; apart = c.never_both.ensures }) text
 
 pub returns-clause-fault : goal.returns-clause-fault
 returns-clause-fault c text =
     one_fault (record { tokens = c.one_lexing.ensures.tokens; faults = c.one_lexing.ensures.faults; apart = c.one_lexing.ensures.apart })
-    (record { trees = c.one_tree.ensures; faults = c.one_refusal.ensures; apart = c.accepted_or_refused.ensures }) text
+    (record { trees = c.one_tree.ensures; faults = c.one_refusal.ensures; apart = c.never_both.ensures }) text
 
 pub returns-clause-apart : goal.returns-clause-apart
 returns-clause-apart c text =
     spelled_apart (record { tokens = c.one_lexing.ensures.tokens; faults = c.one_lexing.ensures.faults; apart = c.one_lexing.ensures.apart })
-    (record { trees = c.one_tree.ensures; faults = c.one_refusal.ensures; apart = c.accepted_or_refused.ensures }) text
+    (record { trees = c.one_tree.ensures; faults = c.one_refusal.ensures; apart = c.never_both.ensures }) text

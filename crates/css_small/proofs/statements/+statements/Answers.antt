@@ -5,7 +5,7 @@ use Rattle.css_tree.proofs.Rows as rows
 use Rattle.css_small.specs.Tree.{Block}
 use Rattle.css_small.specs.Trees.{statement_of, statements_of}
 use Rattle.css_small.proofs.Exits.{passed}
-use Rattle.css_small.proofs.Rows.{statement-Block}
+use Rattle.css_small.proofs.StatementRows.{statement-Block}
 use Rattle.css_small.proofs.Entries.{stated, not_stated, all_stated, on}
 use Rattle.css_small.proofs.statements.+statements.Goals as goal
 
