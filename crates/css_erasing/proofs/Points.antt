@@ -8,7 +8,7 @@ use Rattle.css_base.specs.declared.limits.Limits.{Limits}
 use Rattle.css_base.specs.declared.ending.Stop.TheVariants as stops
 use Rattle.css_semantics.specs.Dialogue.{Action, Finish, Barrier, Wait, Tape, Outcome, Goes, Stops, Stopped, Tired, tape_of}
 use Rattle.css_semantics.specs.Memory.{Memory, image, memory_after}
-use Rattle.css_semantics.specs.Flat.{no_frames, flat}
+use Rattle.css_semantics.specs.Flat.{FlatState, flat}
 use Rattle.css_semantics.specs.Tasks.{is_started}
 use Rattle.css_semantics.specs.Pending.{Object, pending}
 use Rattle.css_semantics.specs.Verdict.{ImageKind, OfBarrier, OfFinish, OfWait, Image, bytes_of_window, images_by, images, Verdict, verdict, judged_in}
@@ -51,13 +51,13 @@ passed_more tape q more extends h =
     let last = grown q more extends in
     (last.0 ++ h.0, last.1 ∙ ap (λ t. last.0 ++ t) h.1 ∙ sym (append_assoc last.0 h.0 (plain tape)))
 
-pub passed : (limits : Limits) (fuel enough n : ℕ) (p : Program) (newer tape : Tape) → tape_of (source (judged_in limits) fuel p) ≡ newer ++ tape → entries (tape_of (source (judged_in limits) fuel p)) ≤ n → fuel ≤ enough →
-    IsPassed tape (tape_of (source (flat limits.memory n) enough (unmarked p)))
-passed limits fuel enough n p newer tape e few le =
-    let o = source (judged_in limits) fuel p in
-    let q = source (flat limits.memory n) fuel (unmarked p) in
-    passed_older (tape_of o) newer tape (tape_of (source (flat limits.memory n) enough (unmarked p))) e
-    (passed_more (tape_of o) q (source (flat limits.memory n) enough (unmarked p)) (extends_source (flat limits.memory n) fuel enough (unmarked p) le) (passed_all o q (erased_source limits n fuel p few)))
+pub passed : (limits : Limits) (start : FlatState) (fuel enough n : ℕ) (p : Program) (newer tape : Tape) → tape_of (source (judged_in limits start) fuel p) ≡ newer ++ tape → entries (tape_of (source (judged_in limits start) fuel p)) ≤ n → fuel ≤ enough →
+    IsPassed tape (tape_of (source (flat start n) enough (unmarked p)))
+passed limits start fuel enough n p newer tape e few le =
+    let o = source (judged_in limits start) fuel p in
+    let q = source (flat start n) fuel (unmarked p) in
+    passed_older (tape_of o) newer tape (tape_of (source (flat start n) enough (unmarked p))) e
+    (passed_more (tape_of o) q (source (flat start n) enough (unmarked p)) (extends_source (flat start n) fuel enough (unmarked p) le) (passed_all o q (erased_source limits start n fuel p few)))
 
 -- ---- images
 
@@ -98,8 +98,8 @@ module _ (start : Memory) (erased : Tape) where
   seen_in (Stops (Stopped stop line) tape) v e h = subst (λ (x : Verdict). All (IsSeen start erased) x.images) (same_Some _ v e) (all_seen tape h)
   seen_in (Stops Tired tape) v e h = cc
 
-pub erased_images : (limits : Limits) (fuel enough n : ℕ) (p : Program) (v : Verdict) → verdict (no_frames limits.memory) (source (judged_in limits) fuel p) ≡ Some v → entries (tape_of (source (judged_in limits) fuel p)) ≤ n → fuel ≤ enough →
-    All (IsSeen (no_frames limits.memory) (tape_of (source (flat limits.memory n) enough (unmarked p)))) v.images
-erased_images limits fuel enough n p v e few le =
-    let o = source (judged_in limits) fuel p in
-    seen_in (no_frames limits.memory) (tape_of (source (flat limits.memory n) enough (unmarked p))) o v e (passed limits fuel enough n p [] (tape_of o) refl few le)
+pub erased_images : (limits : Limits) (start : FlatState) (fuel enough n : ℕ) (p : Program) (v : Verdict) → verdict start.memory (source (judged_in limits start) fuel p) ≡ Some v → entries (tape_of (source (judged_in limits start) fuel p)) ≤ n → fuel ≤ enough →
+    All (IsSeen start.memory (tape_of (source (flat start n) enough (unmarked p)))) v.images
+erased_images limits start fuel enough n p v e few le =
+    let o = source (judged_in limits start) fuel p in
+    seen_in start.memory (tape_of (source (flat start n) enough (unmarked p))) o v e (passed limits start fuel enough n p [] (tape_of o) refl few le)

@@ -3,7 +3,8 @@ use Rattle.std.proofs.Common.{◌≡◌, ℕ, ◌+◌, ◌-◌, ◌≤◌, Bool,
 use Rattle.std.proofs.lemmas.List.{append-nil}
 use Rattle.css_semantics.specs.Dialogue.{Action, Enter, Turn, Calls, Returns, Start, Finish, Barrier, Wait, Item, item, Tape, Outcome, tape_of, output, written_by}
 use Rattle.css_semantics.specs.Worlds.{state_after}
-use Rattle.css_semantics.specs.Memory.{Memory, after, memory_after}
+use Rattle.css_semantics.specs.Memory.{Memory, memory_after}
+use Rattle.css_semantics.specs.Flat.{FlatState, flat_after, flat_at}
 use Rattle.css_semantics.specs.Tasks.{is_started}
 use Rattle.css_semantics.specs.Units.{Metered, with_units, spending}
 use Rattle.css_erasing.specs.Plain.{is_of_tasks, plain, entries}
@@ -52,34 +53,37 @@ pub plain_append : (newer tape : Tape) → plain (newer ++ tape) ≡ plain newer
 plain_append [] tape = refl
 plain_append (i ∷ newer) tape = append_by (is_of_tasks i.action) i (plain (newer ++ tape)) (plain newer) (plain tape) (plain_append newer tape)
 
-module _ (start : Memory) (n : ℕ) where
-  -- the memory behind a plain tape, and the units that are left there
-  left_by : (action : Action) (line : ℕ) (tape : Tape) → state_after (spending after) (with_units start n) (plain tape) ≡ with_units (memory_after start tape) (n - entries tape)
-      → state_after (spending after) (with_units start n) (plain (item action line ∷ tape)) ≡ with_units (memory_after start (item action line ∷ tape)) (n - entries (item action line ∷ tape))
-  left_by (Enter size) line tape h = ap (λ s. spending after s (Enter size)) h ∙ ap (with_units (after (memory_after start tape) (Enter size))) (omega arith)
-  left_by Turn line tape h = ap (λ s. spending after s Turn) h ∙ ap (with_units (memory_after start tape)) (omega arith)
-  left_by (Calls call) line tape h = h ∙ ap (with_units (memory_after start tape)) (omega arith)
-  left_by Returns line tape h = h ∙ ap (with_units (memory_after start tape)) (omega arith)
-  left_by Start line tape h = h ∙ ap (with_units (memory_after start tape)) (omega arith)
-  left_by Finish line tape h = h ∙ ap (with_units (memory_after start tape)) (omega arith)
-  left_by Barrier line tape h = h ∙ ap (with_units (memory_after start tape)) (omega arith)
-  left_by (Wait address) line tape h = h ∙ ap (with_units (memory_after start tape)) (omega arith)
-  left_by action line tape h = ap (λ s. spending after s action) h ∙ ap (with_units (after (memory_after start tape) action)) (omega arith)
+module _ (start : FlatState) (n : ℕ) where
+  -- the state behind a plain tape, and the units that are left there
+  left_by : (action : Action) (line : ℕ) (tape : Tape) → state_after (spending flat_after) (with_units start n) (plain tape) ≡ with_units (flat_at start tape) (n - entries tape)
+      → state_after (spending flat_after) (with_units start n) (plain (item action line ∷ tape)) ≡ with_units (flat_at start (item action line ∷ tape)) (n - entries (item action line ∷ tape))
+  left_by (Enter size) line tape h = ap (λ s. spending flat_after s (Enter size)) h ∙ ap (with_units (flat_after (flat_at start tape) (Enter size))) (omega arith)
+  left_by Turn line tape h = ap (λ s. spending flat_after s Turn) h ∙ ap (with_units (flat_at start tape)) (omega arith)
+  left_by (Calls call) line tape h = h ∙ ap (with_units (flat_at start tape)) (omega arith)
+  left_by Returns line tape h = h ∙ ap (with_units (flat_at start tape)) (omega arith)
+  left_by Start line tape h = h ∙ ap (with_units (flat_at start tape)) (omega arith)
+  left_by Finish line tape h = h ∙ ap (with_units (flat_at start tape)) (omega arith)
+  left_by Barrier line tape h = h ∙ ap (with_units (flat_at start tape)) (omega arith)
+  left_by (Wait address) line tape h = h ∙ ap (with_units (flat_at start tape)) (omega arith)
+  left_by action line tape h = ap (λ s. spending flat_after s action) h ∙ ap (with_units (flat_after (flat_at start tape) action)) (omega arith)
 
-  pub left_behind : (tape : Tape) → state_after (spending after) (with_units start n) (plain tape) ≡ with_units (memory_after start tape) (n - entries tape)
+  pub left_behind : (tape : Tape) → state_after (spending flat_after) (with_units start n) (plain tape) ≡ with_units (flat_at start tape) (n - entries tape)
   left_behind [] = ap (with_units start) (omega arith)
   left_behind (i ∷ tape) = left_by i.action i.line tape (left_behind tape)
 
--- units change no memory
-only_by : (start : Memory) (n : ℕ) (action : Action) (tape : Tape) → (state_after (spending after) (with_units start n) tape).state ≡ memory_after start tape
-    → (spending after (state_after (spending after) (with_units start n) tape) action).state ≡ after (memory_after start tape) action
-only_by start n (Enter size) tape h = ap (λ m. after m (Enter size)) h
+-- units change no state
+only_by : (start : FlatState) (n : ℕ) (action : Action) (tape : Tape) → (state_after (spending flat_after) (with_units start n) tape).state ≡ flat_at start tape
+    → (spending flat_after (state_after (spending flat_after) (with_units start n) tape) action).state ≡ flat_after (flat_at start tape) action
+only_by start n (Enter size) tape h = ap (λ s. flat_after s (Enter size)) h
 only_by start n Turn tape h = h
-only_by start n action tape h = ap (λ m. after m action) h
+only_by start n action tape h = ap (λ s. flat_after s action) h
 
-state_only : (start : Memory) (n : ℕ) (tape : Tape) → (state_after (spending after) (with_units start n) tape).state ≡ memory_after start tape
+state_only : (start : FlatState) (n : ℕ) (tape : Tape) → (state_after (spending flat_after) (with_units start n) tape).state ≡ flat_at start tape
 state_only start n [] = refl
 state_only start n (i ∷ tape) = only_by start n i.action tape (state_only start n tape)
 
+same_state : (start : FlatState) (tape : Tape) → flat_at start (plain tape) ≡ flat_at start tape
+same_state start tape = sym (state_only start 0 (plain tape)) ∙ ap (λ (s : Metered FlatState). s.state) (left_behind start 0 tape)
+
 pub same_memory : (start : Memory) (tape : Tape) → memory_after start (plain tape) ≡ memory_after start tape
-same_memory start tape = sym (state_only start 0 (plain tape)) ∙ ap (λ (s : Metered Memory). s.state) (left_behind start 0 tape)
+same_memory start tape = ap (λ (s : FlatState). s.memory) (same_state (record { memory = start; input = [] }) tape)

@@ -7,7 +7,7 @@ use Rattle.css_base.specs.declared.rule.Rule.{Rule}
 use Rattle.css_base.specs.declared.rule.Rule.TheVariants as rules
 use Rattle.css_semantics.specs.Dialogue.{Action, Enter, Turn, Leave, Load, Store, Out, Calls, Returns, Start, Finish, Barrier, Wait, Fault, End, Argument, Reply, Tape}
 use Rattle.css_semantics.specs.Actions.{Boundary, BodyBegins, BodyEnds, NoBoundary, boundary_of}
-use Rattle.css_semantics.specs.Flat.{erased_stack, no_frames, reply_in}
+use Rattle.css_semantics.specs.Flat.{FlatState, erased_stack, memory_reply}
 use Rattle.css_semantics.specs.Memory.{Memory, is_live_byte, stack_place, after, memory_after}
 use Rattle.css_semantics.specs.Pending.{Object, pending, pending_after}
 use Rattle.css_semantics.specs.Rules.{Check, check, main_stack, first_broken, judged_reply, is_unsynchronised, is_main_too_deep, has_bad_dimension, room_of, all_of_window, overlaps_partly, has_alias}
@@ -28,7 +28,7 @@ memory_checks s action =
 
 -- the reply to an action, without units
 abbrev pub main_reply : Judged → Action → Reply
-main_reply s action = judged_reply (first_broken (memory_checks s action)) (reply_in s.memory action)
+main_reply s action = judged_reply (first_broken (memory_checks s action)) (memory_reply s.memory action)
 
 -- what an action of main does
 abbrev pub main_after : Judged → Action → Judged
@@ -105,9 +105,9 @@ AreOfBody (i ∷ tape) = IsTrue (is_of_body i.action) × AreOfBody tape
 
 -- ---- where main is
 
--- Main is at this tape: no task's body runs; its memory, what is pending and the units that are left are these.
-pub record IsMainAt (limits : Limits) (tape : Tape) (s : Metered Judged) : Type 0 where
+-- Main is at this tape, from a start: no task's body runs; its memory, what is pending and the units that are left are these.
+pub record IsMainAt (limits : Limits) (start : FlatState) (tape : Tape) (s : Metered Judged) : Type 0 where
   pub by_main : body tape ≡ None
-  pub memory : s.state.memory ≡ memory_after (no_frames limits.memory) tape
+  pub memory : s.state.memory ≡ memory_after start.memory tape
   pub objects : s.state.objects ≡ pending tape
   pub units : s.units ≡ limits.main_units - main_units tape

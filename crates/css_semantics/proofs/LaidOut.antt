@@ -3,7 +3,7 @@ use Rattle.std.proofs.Common.{◌≡◌, ◌⊎◌, inl, inr, ℕ, ◌+◌, ◌-
 use Rattle.std.proofs.lemmas.Bool.{and_parts, leb-true, ltb-true}
 use Rattle.css_semantics.specs.Dialogue.{Action, Enter, Turn, Leave, Load, Store, Out, Calls, Returns, Start, Finish, Barrier, Wait, Fault, End, Tape}
 use Rattle.css_semantics.specs.Memory.{Memory, rounded_up, globals_end, heap_start, heap_top, stack_place, is_between, is_live_byte, is_live, overlaid, stored, after, memory_after}
-use Rattle.css_semantics.specs.Flat.{IsLaidOut}
+use Rattle.css_semantics.specs.Flat.{IsLaidOut, IsStart, no_globals}
 use Rattle.css_semantics.proofs.StackPlaces.{length-overlaid}
 
 -- the heap begins behind the globals
@@ -58,3 +58,13 @@ laid_behind size m (End result) laid = laid
 pub laid_along : (size : ℕ) (m : Memory) (tape : Tape) → IsLaidOut size m → IsLaidOut size (memory_after m tape)
 laid_along size m [] laid = laid
 laid_along size m (i ∷ tape) laid = laid_behind size (memory_after m tape) i.action (laid_along size m tape laid)
+
+-- ---- starts
+
+-- a program without globals starts in each memory that has room for the stack above the first address
+pub no_globals_start : (size : ℕ) → 4096 + 1064960 ≤ size → IsStart size (no_globals size)
+no_globals_start size room = record {
+  laid_out = record { end = refl; limit = refl; room = omega (arith, room) };
+  stack = refl;
+  calls = refl;
+}
