@@ -2,7 +2,8 @@
 use Rattle.std.proofs.Common.{◌≡◌, ◌≤◌, ℕ, inl, inr, List, Option, Some, sym, ap, subst, arith}
 use Rattle.css_base.specs.declared.limits.Limits.{Limits}
 use Rattle.css_semantics.specs.Dialogue.{tape_of}
-use Rattle.css_semantics.specs.Flat.{no_frames, flat}
+use Rattle.css_semantics.specs.Flat.{FlatState, flat}
+use Rattle.css_main_side.specs.Playing.{begins}
 use Rattle.css_semantics.specs.Verdict.{Verdict, verdict, judged_in}
 use Rattle.css_lexemes.specs.Lines.{erased}
 use Rattle.css_small.specs.Tree.{Program}
@@ -24,7 +25,7 @@ use Rattle.css_driver.proofs.Words.{asks_nothing, one_request}
 
 -- the verdict is that of the program without its directives
 abbrev pub ErasingLaw : Type 0
-ErasingLaw = (limits : Limits) (fuel enough n : ℕ) (p : Program) (v : Verdict) → verdict (no_frames limits.memory) (source (judged_in limits) fuel p) ≡ Some v → entries (tape_of (source (judged_in limits) fuel p)) ≤ n → fuel ≤ enough → Answers v.ending v.output (source (flat limits.memory n) enough (unmarked p))
+ErasingLaw = (limits : Limits) (start : FlatState) (fuel enough n : ℕ) (p : Program) (v : Verdict) → verdict start.memory (source (judged_in limits start) fuel p) ≡ Some v → entries (tape_of (source (judged_in limits start) fuel p)) ≤ n → fuel ≤ enough → Answers v.ending v.output (source (flat start n) enough (unmarked p))
 
 -- the text without its directives spells that program
 abbrev pub SpellsUnmarked : Type 0
@@ -41,8 +42,8 @@ erased_output law spelled limits text p a spells one =
       v = one.v;
       has = one.has.1;
       answers = λ units enough few less.
-          subst (λ bytes. Answers one.v.ending bytes (source (flat limits.memory units) enough (unmarked p))) (sym one.out_is)
-          (law limits one.has.0 enough units p one.v one.has.1 few less);
+          subst (λ bytes. Answers one.v.ending bytes (source (flat (begins limits) units) enough (unmarked p))) (sym one.out_is)
+          (law limits (begins limits) one.has.0 enough units p one.v one.has.1 few less);
     }
 
 given_output : ErasingLaw → SpellsUnmarked → (limits : Limits) (text : List ℕ) (a : Answer) → IsProgramAnswer Run limits text a → IsErasedOutput limits text a.out

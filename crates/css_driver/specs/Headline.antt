@@ -2,7 +2,8 @@
 use Rattle.std.specs.Prelude.{◌≡◌, ◌≤◌, ◌⊎◌, ℕ, List, Some}
 use Rattle.css_base.specs.declared.limits.Limits.{Limits}
 use Rattle.css_semantics.specs.Dialogue.{tape_of}
-use Rattle.css_semantics.specs.Flat.{no_frames, flat}
+use Rattle.css_semantics.specs.Flat.{flat}
+use Rattle.css_main_side.specs.Playing.{begins}
 use Rattle.css_semantics.specs.Verdict.{Verdict, verdict, judged_in}
 use Rattle.css_lexemes.specs.Lines.{erased}
 use Rattle.css_small.specs.Tree.{Program}
@@ -21,9 +22,9 @@ pub record IsErasedOutput (limits : Limits) (text : List ℕ) (bytes : List ℕ)
   pub spells_erased : Spells (erased text) plain
   pub fuel : ℕ
   pub v : Verdict
-  pub has : verdict (no_frames limits.memory) (source (judged_in limits) fuel marked) ≡ Some v
-  pub answers : (units enough : ℕ) → entries (tape_of (source (judged_in limits) fuel marked)) ≤ units → fuel ≤ enough
-      → Answers v.ending bytes (source (flat limits.memory units) enough plain)
+  pub has : verdict (begins limits).memory (source (judged_in limits (begins limits)) fuel marked) ≡ Some v
+  pub answers : (units enough : ℕ) → entries (tape_of (source (judged_in limits (begins limits)) fuel marked)) ≤ units → fuel ≤ enough
+      → Answers v.ending bytes (source (flat (begins limits) units) enough plain)
 
 -- the status of a run that ended
 abbrev pub IsOfRun : ℕ → Type 0
