@@ -2,7 +2,7 @@
 use Rattle.std.proofs.Common.{◌≡◌, ℕ, zero, suc, ◌+◌, ◌∷◌, [], ◌++◌, IsTrue, refl, sym, ap, ◌∙◌, subst}
 use Rattle.std.specs.List.{AllByRecursion}
 use Rattle.std.proofs.lemmas.List.{append-nil}
-use Rattle.css_semantics.specs.Dialogue.{Action, Enter, Turn, Leave, Load, Store, Out, Calls, Returns, Start, Finish, Barrier, Wait, Fault, End, Call, Item, Tape, Reply, Says, World, Outcome, item, then_do, tape_of}
+use Rattle.css_semantics.specs.Dialogue.{Action, Enter, Turn, Leave, Load, Store, Out, In, Malloc, Calls, Returns, Start, Finish, Barrier, Wait, WaitFault, DimFault, Fault, End, Call, Item, Tape, Reply, Says, World, Outcome, item, then_do, tape_of}
 use Rattle.css_semantics.specs.Worlds.{state_after, world_of, is_of_machine, AreOfMachine, Follows}
 use Rattle.css_semantics.specs.Memory.{Memory, after}
 use Rattle.css_semantics.specs.Units.{Metered, metered, spending}
@@ -33,12 +33,16 @@ passes_machine (Leave base size) reply h = refl
 passes_machine (Load address width) reply h = refl
 passes_machine (Store address bytes) reply h = refl
 passes_machine (Out bytes) reply h = refl
+passes_machine In reply h = refl
+passes_machine (Malloc size) reply h = refl
 passes_machine (Calls call) reply h = absurd (cc)
 passes_machine Returns reply h = refl
 passes_machine Start reply h = refl
 passes_machine Finish reply h = refl
 passes_machine Barrier reply h = refl
 passes_machine (Wait address) reply h = refl
+passes_machine WaitFault reply h = refl
+passes_machine DimFault reply h = refl
 passes_machine (Fault kind) reply h = refl
 passes_machine (End result) reply h = refl
 

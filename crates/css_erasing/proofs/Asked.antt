@@ -9,9 +9,9 @@ use Rattle.css_semantics.specs.Tasks.{unit_of}
 use Rattle.css_semantics.specs.Rules.{hit, judged_reply}
 use Rattle.css_semantics.specs.Verdict.{judged_in}
 use Rattle.css_small_code.proofs.Grows.{Grows, grows_then, grows_ask}
-use Rattle.css_erasing.specs.Plain.{is_of_tasks, plain, entries}
+use Rattle.css_erasing.specs.Plain.{is_of_tasks, is_left_out, plain, entries}
 use Rattle.css_erasing.specs.Erased.{IsErased}
-use Rattle.css_erasing.proofs.Tapes.{plain_stays, left_behind}
+use Rattle.css_erasing.proofs.Tapes.{plain_stays, stays_in, left_behind}
 use Rattle.css_erasing.proofs.Kept.{Kept}
 
 -- ---- replies
@@ -46,9 +46,9 @@ fails_with m units action e = e
 
 -- ---- an item that stays
 
-by_reply : (n : ℕ) (r r' : Reply) (i : Item) (tape : Tape) → is_of_tasks i.action ≡ false → ((value : ℕ) → r ≡ Says value → entries (i ∷ tape) ≤ n → r' ≡ Says value) → (r ≡ Fails → r' ≡ Fails) → Grows (plain tape) (replied r' i (plain tape))
+by_reply : (n : ℕ) (r r' : Reply) (i : Item) (tape : Tape) → is_left_out i ≡ false → ((value : ℕ) → r ≡ Says value → entries (i ∷ tape) ≤ n → r' ≡ Says value) → (r ≡ Fails → r' ≡ Fails) → Grows (plain tape) (replied r' i (plain tape))
     → entries (tape_of (replied r i tape)) ≤ n → IsErased (replied r i tape) (replied r' i (plain tape))
-by_reply n (Says value) r' i tape stays says fails grows few = ap (λ x. replied x i (plain tape)) (says value refl few) ∙ ap (λ t. Goes value t) (sym (plain_stays i.action i.line tape stays))
+by_reply n (Says value) r' i tape stays says fails grows few = ap (λ x. replied x i (plain tape)) (says value refl few) ∙ ap (λ t. Goes value t) (sym (plain_stays i tape stays))
 by_reply n Fails r' i tape stays says fails grows few = rw (fails refl, stays) refl
 by_reply n (Refuses rule) r' i tape stays says fails grows few = grows
 
@@ -75,7 +75,7 @@ module _ (limits : Limits) (start : FlatState) (n : ℕ) where
   kept_ask action stays line = record {
     grows = grows_ask w action line;
     grows_erased = grows_ask w' action line;
-    erases = λ t. by_reply n (w t (item action line)) (w' (plain t) (item action line)) (item action line) t stays (says_too action line t) (fails_too action line t) (grows_ask w' action line (plain t));
+    erases = λ t. by_reply n (w t (item action line)) (w' (plain t) (item action line)) (item action line) t (stays_in action line stays) (says_too action line t) (fails_too action line t) (grows_ask w' action line (plain t));
   }
 
   -- ---- an item that is left out

@@ -3,7 +3,7 @@ use Rattle.std.proofs.Common.{inl, inr, Bool, not, ◌||◌, slice_index, ◌≡
 use Rattle.std.proofs.lemmas.Bool.{not-true, leb-false, ltb-false, and_from, or_parts, le-leb, lt-ltb, eq-eqb}
 use Rattle.std.proofs.lemmas.List.{length-append, length-drop, length-replicate, drop-append-le}
 use Rattle.css_base.specs.declared.limits.Limits.{Limits}
-use Rattle.css_semantics.specs.Dialogue.{Action, Enter, Turn, Leave, Load, Store, Out, Calls, Returns, Start, Finish, Barrier, Wait, Fault, End, Says, Fails, Refuses}
+use Rattle.css_semantics.specs.Dialogue.{Action, Enter, Turn, Leave, Load, Store, Out, In, Malloc, Calls, Returns, Start, Finish, Barrier, Wait, WaitFault, DimFault, Fault, End, Says, Fails, Refuses}
 use Rattle.css_base.specs.declared.rule.Rule.TheVariants.{MainStack}
 use Rattle.css_semantics.specs.Memory.{Memory, stack_place, big_endian, is_between, is_live_byte, byte_at, bytes_at, is_live, overlaid, stored, after}
 use Rattle.css_semantics.specs.Flat.{erased_stack, has_room, is_innermost, memory_reply}
@@ -108,12 +108,16 @@ module _ (limits : Limits) (b : Body) (at_call : Memory) (called : IsCalled b.us
   reply_same (Store address bytes) asks none =
       ap (λ live. if live then Says 0 else Fails) (all_live address (length bytes) (inside_is_given b address (length bytes) (are_kept (checks_of_task limits b (Store address bytes)) none).0))
   reply_same (Out bytes) asks none = absurd asks
+  reply_same In asks none = absurd asks
+  reply_same (Malloc size) asks none = absurd asks
   reply_same (Calls call) asks none = absurd asks
   reply_same Returns asks none = refl
   reply_same Start asks none = refl
   reply_same Finish asks none = refl
   reply_same Barrier asks none = refl
   reply_same (Wait address) asks none = refl
+  reply_same WaitFault asks none = refl
+  reply_same DimFault asks none = refl
   reply_same (Fault kind) asks none = refl
   reply_same (End result) asks none = refl
 
@@ -232,12 +236,16 @@ module _ (limits : Limits) (b : Body) (at_call : Memory) (called : IsCalled b.us
       let kept = are_kept (checks_of_task limits b (Store address bytes)) none in
       stored_step address bytes (inside_is_given b address (length bytes) kept.0) (none_from (is_given_for (λ d. not (writes d)) b) address (length bytes) kept.1.0)
   step_after (Out bytes) asks none = absurd asks
+  step_after In asks none = absurd asks
+  step_after (Malloc size) asks none = absurd asks
   step_after (Calls call) asks none = absurd asks
   step_after Returns asks none = absurd asks
   step_after Start asks none = absurd asks
   step_after Finish asks none = absurd asks
   step_after Barrier asks none = absurd asks
   step_after (Wait address) asks none = absurd asks
+  step_after WaitFault asks none = absurd asks
+  step_after DimFault asks none = absurd asks
   step_after (Fault kind) asks none = absurd asks
   step_after (End result) asks none = absurd asks
 

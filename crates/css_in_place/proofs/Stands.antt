@@ -1,8 +1,8 @@
 -- Main's frames and a task's make the whole stack, along a tape.
-use Rattle.std.proofs.Common.{◌≤◌, ◌≡◌, ℕ, Bool, true, false, List, [], ◌∷◌, length, drop, replicate, Option, Some, None, is_none, refl, ap, ◌∙◌, arith, if◌then◌else◌}
+use Rattle.std.proofs.Common.{◌≤◌, ◌≡◌, ℕ, Bool, true, false, List, [], ◌∷◌, ◌++◌, length, drop, replicate, Option, Some, None, is_none, refl, ap, ◌∙◌, arith, if◌then◌else◌}
 use Rattle.std.proofs.lemmas.List.{length-append, length-drop, length-replicate}
-use Rattle.css_semantics.specs.Dialogue.{Action, Enter, Leave, Store, Calls, Returns, Call, Tape, item}
-use Rattle.css_semantics.specs.Memory.{Memory, is_live, stack_place, stored, after, memory_after}
+use Rattle.css_semantics.specs.Dialogue.{Action, Enter, Leave, Store, Malloc, Calls, Returns, Call, Tape, item}
+use Rattle.css_semantics.specs.Memory.{Memory, rounded_up, has_heap, is_live, stack_place, stored, after, memory_after}
 use Rattle.css_semantics.specs.Tasks.{Body, body, body_after}
 use Rattle.css_semantics.specs.TaskSpaces.{total}
 use Rattle.css_semantics.proofs.StackPlaces.{length-overlaid}
@@ -24,16 +24,26 @@ stored_calls : (b : Bool) (m : Memory) (address : ℕ) (bytes : List ℕ) → (i
 stored_calls true m address bytes = refl
 stored_calls false m address bytes = refl
 
+grown_length : (b : Bool) (m : Memory) (n : ℕ) → length (if b then record m { heap = m.heap ++ replicate (rounded_up 16 n) 0 } else m).stack ≡ length m.stack
+grown_length true m n = refl
+grown_length false m n = refl
+
+grown_calls : (b : Bool) (m : Memory) (n : ℕ) → (if b then record m { heap = m.heap ++ replicate (rounded_up 16 n) 0 } else m).calls ≡ m.calls
+grown_calls true m n = refl
+grown_calls false m n = refl
+
 still_length : (m : Memory) (action : Action) → IsStill action → length (after m action).stack ≡ length m.stack
 still_length m (Enter n) still = absurd still
 still_length m (Leave base n) still = absurd still
 still_length m (Store address bytes) still = stored_length (is_live m address (length bytes)) m address bytes
+still_length m (Malloc n) still = grown_length (has_heap m n) m n
 still_length m _ still = refl
 
 still_calls : (m : Memory) (action : Action) → IsStill action → (after m action).calls ≡ m.calls
 still_calls m (Enter n) still = absurd still
 still_calls m (Leave base n) still = absurd still
 still_calls m (Store address bytes) still = stored_calls (is_live m address (length bytes)) m address bytes
+still_calls m (Malloc n) still = grown_calls (has_heap m n) m n
 still_calls m _ still = refl
 
 still_body : (o : Option Body) (action : Action) → IsStill action → is_none (body_after o action) ≡ is_none o

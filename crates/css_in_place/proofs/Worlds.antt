@@ -2,7 +2,7 @@
 use Rattle.std.proofs.Common.{false, ◌≡◌, ℕ, ◌-◌, List, ◌∷◌, ◌++◌, Option, Some, None, refl, sym, ap, subst, ◌∙◌, arith, if◌then◌else◌}
 use Rattle.css_base.specs.declared.limits.Limits.{Limits}
 use Rattle.css_base.specs.declared.rule.Rule.{Rule}
-use Rattle.css_semantics.specs.Dialogue.{Action, Enter, Turn, Leave, Load, Store, Out, Calls, Returns, Start, Finish, Barrier, Wait, Fault, End, Tape, Reply, Says, Fails, item}
+use Rattle.css_semantics.specs.Dialogue.{Action, Enter, Turn, Leave, Load, Store, Out, In, Malloc, Calls, Returns, Start, Finish, Barrier, Wait, WaitFault, DimFault, Fault, End, Tape, Reply, Says, Fails, item}
 use Rattle.css_semantics.specs.Worlds.{state_after, AreOfMachine}
 use Rattle.css_semantics.specs.Memory.{Memory, memory_after}
 use Rattle.css_semantics.specs.Flat.{FlatState, memory_reply, reply_in, flat_at}
@@ -38,12 +38,16 @@ body_on b top frames (Leave base size) asks = refl
 body_on b top frames (Load address width) asks = refl
 body_on b top frames (Store address bytes) asks = refl
 body_on b top frames (Out bytes) asks = absurd asks
+body_on b top frames In asks = absurd asks
+body_on b top frames (Malloc size) asks = absurd asks
 body_on b top frames (Calls call) asks = absurd asks
 body_on b top frames Returns asks = absurd asks
 body_on b top frames Start asks = absurd asks
 body_on b top frames Finish asks = absurd asks
 body_on b top frames Barrier asks = absurd asks
 body_on b top frames (Wait address) asks = absurd asks
+body_on b top frames WaitFault asks = absurd asks
+body_on b top frames DimFault asks = absurd asks
 body_on b top frames (Fault kind) asks = absurd asks
 body_on b top frames (End result) asks = absurd asks
 
@@ -91,12 +95,16 @@ module _ (limits : Limits) (start : FlatState) (uses : List Use) (inputs : List 
       asks_memory (Load address width) asks = refl
       asks_memory (Store address bytes) asks = refl
       asks_memory (Out bytes) asks = absurd asks
+      asks_memory In asks = absurd asks
+      asks_memory (Malloc size) asks = absurd asks
       asks_memory (Calls call) asks = absurd asks
       asks_memory Returns asks = absurd asks
       asks_memory Start asks = absurd asks
       asks_memory Finish asks = absurd asks
       asks_memory Barrier asks = absurd asks
       asks_memory (Wait address) asks = absurd asks
+      asks_memory WaitFault asks = absurd asks
+      asks_memory DimFault asks = absurd asks
       asks_memory (Fault kind) asks = absurd asks
       asks_memory (End result) asks = absurd asks
 
@@ -119,12 +127,16 @@ module _ (limits : Limits) (start : FlatState) (uses : List Use) (inputs : List 
       goes_on (Load address width) asks = refl
       goes_on (Store address bytes) asks = refl
       goes_on (Out bytes) asks = absurd asks
+      goes_on In asks = absurd asks
+      goes_on (Malloc size) asks = absurd asks
       goes_on (Calls call) asks = absurd asks
       goes_on Returns asks = absurd asks
       goes_on Start asks = absurd asks
       goes_on Finish asks = absurd asks
       goes_on Barrier asks = absurd asks
       goes_on (Wait address) asks = absurd asks
+      goes_on WaitFault asks = absurd asks
+      goes_on DimFault asks = absurd asks
       goes_on (Fault kind) asks = absurd asks
       goes_on (End result) asks = absurd asks
 

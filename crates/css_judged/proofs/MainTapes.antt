@@ -5,7 +5,7 @@ use Rattle.css_base.specs.declared.limits.Limits.{Limits}
 use Rattle.css_base.specs.Limits.{IsInRange}
 use Rattle.css_base.specs.declared.rule.Rule.{Rule}
 use Rattle.css_base.specs.declared.rule.Rule.TheVariants as rules
-use Rattle.css_semantics.specs.Dialogue.{Action, Enter, Turn, Leave, Load, Store, Out, Calls, Returns, Start, Finish, Barrier, Wait, Fault, End, Call, Item, Tape, Reply, Says, Refuses, item}
+use Rattle.css_semantics.specs.Dialogue.{Action, Enter, Turn, Leave, Load, Store, Out, In, Malloc, Calls, Returns, Start, Finish, Barrier, Wait, WaitFault, DimFault, Fault, End, Call, Item, Tape, Reply, Says, Refuses, item}
 use Rattle.css_semantics.specs.Worlds.{state_after, is_of_machine, is_fault, AreOfMachine, Follows}
 use Rattle.css_semantics.specs.Memory.{Memory, heap_start, stack_place, is_live, overlaid, stored, after, memory_after}
 use Rattle.css_semantics.specs.Flat.{FlatState, erased_stack, has_room, reply_in, flat_at, IsStart}
@@ -121,12 +121,16 @@ module _ (limits : Limits) (start : FlatState) (in_range : IsInRange limits) (st
   by_rules (Load address width) asked = same_answer (Load address width)
   by_rules (Store address bytes) asked = same_answer (Store address bytes)
   by_rules (Out bytes) asked = absurd (cc)
+  by_rules In asked = absurd (cc)
+  by_rules (Malloc size) asked = absurd (cc)
   by_rules (Calls call) asked = absurd (cc)
   by_rules Returns asked = absurd (cc)
   by_rules Start asked = absurd (cc)
   by_rules Finish asked = absurd (cc)
   by_rules Barrier asked = absurd (cc)
   by_rules (Wait address) asked = absurd (cc)
+  by_rules WaitFault asked = absurd (cc)
+  by_rules DimFault asked = absurd (cc)
   by_rules (Fault kind) asked = absurd (cc)
   by_rules (End result) asked = absurd (cc)
 
@@ -205,6 +209,8 @@ pending_behind objects (Leave base size) of_body = refl
 pending_behind objects (Load address width) of_body = refl
 pending_behind objects (Store address bytes) of_body = refl
 pending_behind objects (Out bytes) of_body = refl
+pending_behind objects In of_body = refl
+pending_behind objects (Malloc size) of_body = refl
 pending_behind objects (Fault kind) of_body = refl
 pending_behind objects _ of_body = absurd (cc)
 

@@ -5,7 +5,7 @@ use Rattle.css_base.specs.declared.direction.Direction.TheVariants.{InOut}
 use Rattle.css_base.specs.declared.limits.Limits.{Limits}
 use Rattle.css_base.specs.declared.rule.Rule.{Rule}
 use Rattle.css_base.specs.declared.rule.Rule.TheVariants as rules
-use Rattle.css_semantics.specs.Dialogue.{Action, Enter, Turn, Leave, Load, Store, Out, Calls, Returns, Start, Finish, Barrier, Wait, Fault, End, Argument, Reply, Tape}
+use Rattle.css_semantics.specs.Dialogue.{Action, Enter, Turn, Leave, Load, Store, Out, In, Malloc, Calls, Returns, Start, Finish, Barrier, Wait, WaitFault, DimFault, Fault, End, Argument, Reply, Tape}
 use Rattle.css_semantics.specs.Actions.{Boundary, BodyBegins, BodyEnds, NoBoundary, boundary_of}
 use Rattle.css_semantics.specs.Flat.{FlatState, erased_stack, memory_reply}
 use Rattle.css_semantics.specs.Memory.{Memory, is_live_byte, stack_place, after, memory_after}
@@ -89,12 +89,16 @@ is_of_body (Leave base size) = true
 is_of_body (Load address width) = true
 is_of_body (Store address bytes) = true
 is_of_body (Out bytes) = true
+is_of_body In = false
+is_of_body (Malloc size) = false
 is_of_body (Calls call) = false
 is_of_body Returns = false
 is_of_body Start = false
 is_of_body Finish = false
 is_of_body Barrier = false
 is_of_body (Wait address) = false
+is_of_body WaitFault = false
+is_of_body DimFault = false
 is_of_body (Fault kind) = true
 is_of_body (End result) = false
 

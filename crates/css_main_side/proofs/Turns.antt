@@ -13,7 +13,7 @@ use Rattle.css_base.specs.declared.rule.Rule.{Rule}
 use Rattle.css_base.specs.declared.rule.Rule.TheVariants as rules
 use Rattle.css_judged.specs.Judged.{Judged, main_reply, main_after, main_place, IsMainAt}
 use Rattle.css_judged.proofs.MainTapes.{follows, stays, acts, asks_out, asks_start, asks_finish, asks_barrier, asks_end}
-use Rattle.css_semantics.specs.Dialogue.{Action, Enter, Turn, Leave, Load, Store, Out, Calls, Returns, Start, Finish, Barrier, Wait, Fault, End, Item, Tape, Reply, Says, Fails, Refuses, World, Outcome, Goes, Stops, Stopped, Tired, tape_of, then_do, replied, ask, item, output}
+use Rattle.css_semantics.specs.Dialogue.{Action, Enter, Turn, Leave, Load, Store, Out, In, Malloc, Calls, Returns, Start, Finish, Barrier, Wait, WaitFault, DimFault, Fault, End, Item, Tape, Reply, Says, Fails, Refuses, World, Outcome, Goes, Stops, Stopped, Tired, tape_of, then_do, replied, ask, item, output}
 use Rattle.css_semantics.specs.Flat.{FlatState, IsStart}
 use Rattle.css_semantics.specs.Memory.{Memory}
 use Rattle.css_semantics.specs.Tasks.{is_started, called, called_after, body, inside}
@@ -67,12 +67,16 @@ calls_nothing before (Load address width) h = refl
 calls_nothing before (Store address bytes) h = refl
 calls_nothing before (Fault kind) h = refl
 calls_nothing before (Out bytes) h = absurd (cc)
+calls_nothing before In h = absurd (cc)
+calls_nothing before (Malloc size) h = absurd (cc)
 calls_nothing before (Calls call) h = absurd (cc)
 calls_nothing before Returns h = absurd (cc)
 calls_nothing before Start h = absurd (cc)
 calls_nothing before Finish h = absurd (cc)
 calls_nothing before Barrier h = absurd (cc)
 calls_nothing before (Wait address) h = absurd (cc)
+calls_nothing before WaitFault h = absurd (cc)
+calls_nothing before DimFault h = absurd (cc)
 calls_nothing before (End result) h = absurd (cc)
 
 same_called : (more tape : Tape) → AreOfMachine more → called (more ++ tape) ≡ called tape

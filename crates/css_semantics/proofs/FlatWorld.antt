@@ -1,6 +1,6 @@
 -- The flat world replies to a machine as its memory does, with units.
 use Rattle.std.proofs.Common.{◌≡◌, ℕ, [], ◌∷◌, ◌++◌, IsTrue, refl, ap, ◌∙◌}
-use Rattle.css_semantics.specs.Dialogue.{Action, Enter, Turn, Leave, Load, Store, Out, Calls, Returns, Start, Finish, Barrier, Wait, Fault, End, Tape}
+use Rattle.css_semantics.specs.Dialogue.{Action, Enter, Turn, Leave, Load, Store, Out, In, Malloc, Calls, Returns, Start, Finish, Barrier, Wait, WaitFault, DimFault, Fault, End, Tape}
 use Rattle.css_semantics.specs.Actions.{Taking, OnEntry, OnTurn, NoUnit, taking_of}
 use Rattle.css_semantics.specs.Worlds.{state_after, is_of_machine, Follows}
 use Rattle.css_semantics.specs.Memory.{Memory, after}
@@ -31,12 +31,16 @@ same_reply s (Leave base size) asked = refl
 same_reply s (Load address width) asked = refl
 same_reply s (Store address bytes) asked = refl
 same_reply s (Out bytes) asked = absurd (cc)
+same_reply s In asked = absurd (cc)
+same_reply s (Malloc size) asked = absurd (cc)
 same_reply s (Calls call) asked = absurd (cc)
 same_reply s Returns asked = absurd (cc)
 same_reply s Start asked = absurd (cc)
 same_reply s Finish asked = absurd (cc)
 same_reply s Barrier asked = absurd (cc)
 same_reply s (Wait address) asked = absurd (cc)
+same_reply s WaitFault asked = absurd (cc)
+same_reply s DimFault asked = absurd (cc)
 same_reply s (Fault kind) asked = absurd (cc)
 same_reply s (End result) asked = absurd (cc)
 

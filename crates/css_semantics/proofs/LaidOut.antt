@@ -1,8 +1,9 @@
 -- Where the bytes of a flat memory are live, and that its layout stays along a tape.
-use Rattle.std.proofs.Common.{◌≡◌, ◌⊎◌, inl, inr, ℕ, ◌+◌, ◌-◌, ◌/◌, ◌*◌, ◌<◌, ◌≤◌, Bool, true, false, ◌||◌, nat_le, nat_lt, [], ◌∷◌, List, length, refl, ap, subst, sym, ◌∙◌, arith, if◌then◌else◌}
+use Rattle.std.proofs.Common.{◌≡◌, ◌⊎◌, inl, inr, ℕ, ◌+◌, ◌-◌, ◌/◌, ◌*◌, ◌<◌, ◌≤◌, Bool, true, false, ◌||◌, nat_le, nat_lt, [], ◌∷◌, ◌++◌, List, length, replicate, refl, ap, subst, sym, ◌∙◌, arith, if◌then◌else◌}
 use Rattle.std.proofs.lemmas.Bool.{and_parts, leb-true, ltb-true}
-use Rattle.css_semantics.specs.Dialogue.{Action, Enter, Turn, Leave, Load, Store, Out, Calls, Returns, Start, Finish, Barrier, Wait, Fault, End, Tape}
-use Rattle.css_semantics.specs.Memory.{Memory, rounded_up, globals_end, heap_start, heap_top, stack_place, is_between, is_live_byte, is_live, overlaid, stored, after, memory_after}
+use Rattle.std.proofs.lemmas.List.{length-append, length-replicate}
+use Rattle.css_semantics.specs.Dialogue.{Action, Enter, Turn, Leave, Load, Store, Out, In, Malloc, Calls, Returns, Start, Finish, Barrier, Wait, WaitFault, DimFault, Fault, End, Tape}
+use Rattle.css_semantics.specs.Memory.{Memory, rounded_up, globals_end, heap_start, heap_top, heap_end, has_heap, stack_place, is_between, is_live_byte, is_live, overlaid, stored, after, memory_after}
 use Rattle.css_semantics.specs.Flat.{IsLaidOut, IsStart, no_globals}
 use Rattle.css_semantics.proofs.StackPlaces.{length-overlaid}
 
@@ -39,6 +40,16 @@ stored_laid : (live : Bool) (size : ℕ) (m : Memory) (address : ℕ) (bytes : L
 stored_laid true size m address bytes laid = record { end = laid.end; limit = laid.limit; room = omega (arith, laid.room, top_stored m address bytes) }
 stored_laid false size m address bytes laid = laid
 
+-- where the heap grows, it stays below its end
+heap_laid : (b : Bool) (size : ℕ) (m : Memory) (n : ℕ) → has_heap m n ≡ b → IsLaidOut size m → IsLaidOut size (if b then record m { heap = m.heap ++ replicate (rounded_up 16 n) 0 } else m)
+heap_laid true size m n is laid =
+    let parts = and_parts (nat_lt 0 n) (nat_le (heap_top m + rounded_up 16 n) (heap_end m)) is in
+    let below = leb-true (heap_top m + rounded_up 16 n) (heap_end m) parts.1 in
+    let long = length-append m.heap (replicate (rounded_up 16 n) 0) in
+    let more = length-replicate {A = ℕ} (rounded_up 16 n) 0 in
+    record { end = laid.end; limit = laid.limit; room = omega (arith, laid.end, laid.room, below, long, more) }
+heap_laid false size m n is laid = laid
+
 laid_behind : (size : ℕ) (m : Memory) (action : Action) → IsLaidOut size m → IsLaidOut size (after m action)
 laid_behind size m (Enter n) laid = record { end = laid.end; limit = laid.limit; room = laid.room }
 laid_behind size m Turn laid = laid
@@ -46,12 +57,16 @@ laid_behind size m (Leave base n) laid = record { end = laid.end; limit = laid.l
 laid_behind size m (Load address width) laid = laid
 laid_behind size m (Store address bytes) laid = stored_laid (is_live m address (length bytes)) size m address bytes laid
 laid_behind size m (Out bytes) laid = laid
+laid_behind size m In laid = laid
+laid_behind size m (Malloc n) laid = heap_laid (has_heap m n) size m n refl laid
 laid_behind size m (Calls call) laid = laid
 laid_behind size m Returns laid = laid
 laid_behind size m Start laid = laid
 laid_behind size m Finish laid = laid
 laid_behind size m Barrier laid = laid
 laid_behind size m (Wait address) laid = laid
+laid_behind size m WaitFault laid = laid
+laid_behind size m DimFault laid = laid
 laid_behind size m (Fault kind) laid = laid
 laid_behind size m (End result) laid = laid
 
