@@ -6,6 +6,9 @@ use Rattle.css_semantics.specs.Memory.{Memory, globals_end, heap_start, heap_top
 use Rattle.css_semantics.proofs.LaidOut.{heap_behind, in_between, live_apart}
 use Rattle.css_in_place.proofs.TaskBytes.{overlaid_append}
 
+between_by : (from to a : ℕ) → from ≤ a → a < to → is_between from to a ≡ true
+between_by from to a above below = grind (arith, nat_tests)
+
 -- a memory with so many bytes more in front of its stack, and so many more open calls
 abbrev pub in_front : (stack : List ℕ) (calls : ℕ) → Memory → Memory
 in_front stack calls around = record around { stack = stack ++ around.stack; calls = calls + around.calls }
@@ -36,10 +39,10 @@ clear_below around place at low depth short a live =
     elim (live_apart around a live) [
       | inl under ↦
           let below : a < place - depth = omega (arith, under, low, short) in
-          grind (arith, nat_tests)
+          grind (arith, nat_tests, below)
       | inr above ↦
           let over : place ≤ a = omega (arith, above.0, at) in
-          grind (arith, nat_tests)
+          grind (arith, nat_tests, over)
     ]
 
 module _ (stack : List ℕ) (calls : ℕ) (around : Memory) (place : ℕ) (at : place + length around.stack ≡ around.end) (low : heap_top around + 16384 ≤ place) (short : length stack ≤ 16384) where
@@ -59,7 +62,9 @@ module _ (stack : List ℕ) (calls : ℕ) (around : Memory) (place : ℕ) (at : 
       (λ is.
       let above = in_between (stack_place around) around.end a is in
       let lower : stack_place m ≤ stack_place around = omega (arith, front_lowest, around_lowest) in
-      grind (arith, nat_tests)) live
+      let from : stack_place m ≤ a = omega (arith, lower, above.0) in
+      let to : a < around.end = above.1 in
+      between_by (stack_place m) around.end a from to) live
 
   pub byte_around : (a : ℕ) → is_live_byte around a ≡ true → byte_at m a ≡ byte_at around a
   byte_around a live =
@@ -80,19 +85,19 @@ module _ (stack : List ℕ) (calls : ℕ) (around : Memory) (place : ℕ) (at : 
     over_globals =
         let behind = heap_behind around in
         let over : globals_end around ≤ a = omega (arith, behind, above, low, short) in
-        grind (arith, nat_tests)
+        grind (arith, nat_tests, over)
 
     over_heap : is_between (heap_start around) (heap_top around) a ≡ false
     over_heap =
         let over : heap_top around ≤ a = omega (arith, above, low, short) in
-        grind (arith, nat_tests)
+        grind (arith, nat_tests, over)
 
     -- the bytes of the stack in front
     pub live_front : is_live_byte m a ≡ true
     live_front =
         let from : stack_place m ≤ a = omega (arith, front_lowest, above) in
         let to : a < around.end = omega (arith, below, at) in
-        let is : is_between (stack_place m) around.end a ≡ true = grind (arith, nat_tests) in
+        let is : is_between (stack_place m) around.end a ≡ true = between_by (stack_place m) around.end a from to in
         rw is (last_true (is_between 4096 (globals_end around) a) (is_between (heap_start around) (heap_top around) a))
 
     pub byte_front : byte_at m a ≡ slice_index stack (a - (place - length stack))

@@ -1,8 +1,8 @@
 -- Flat memories that differ in their bytes alone, and what a store does to a byte.
-use Rattle.std.proofs.Common.{◌≡◌, ◌⊎◌, inl, inr, ℕ, ◌+◌, ◌-◌, ◌<◌, ◌≤◌, Bool, true, false, ◌||◌, List, length, slice_index, refl, sym, ap, ◌∙◌, arith, if◌then◌else◌}
+use Rattle.std.proofs.Common.{◌≡◌, ◌⊎◌, inl, inr, ℕ, ◌+◌, ◌-◌, ◌<◌, ◌≤◌, Bool, true, false, ◌||◌, List, length, slice_index, refl, sym, ap, ap₂, ◌∙◌, arith, if◌then◌else◌}
 use Rattle.std.proofs.lemmas.Bool.Decides.{nat_tests}
 use Rattle.std.proofs.lemmas.List.{ext_get_or}
-use Rattle.css_semantics.specs.Memory.{Memory, globals_end, heap_start, heap_top, stack_place, is_between, is_live_byte, byte_at, overlaid, stored}
+use Rattle.css_semantics.specs.Memory.{Memory, rounded_up, globals_end, heap_start, heap_top, stack_place, is_between, is_live_byte, byte_at, overlaid, stored}
 use Rattle.css_semantics.proofs.LaidOut.{heap_behind, in_between}
 use Rattle.css_semantics.proofs.StackPlaces.{length-overlaid}
 use Rattle.css_in_place.proofs.TaskBytes.{new_byte, overlaid_byte}
@@ -41,13 +41,17 @@ shape_stored m address new = record {
 
 -- the same bytes are live
 pub live_same : (m n : Memory) → SameShape m n → (a : ℕ) → is_live_byte m a ≡ is_live_byte n a
-live_same m n shape a = rw (shape.globals, shape.heap, shape.stack, shape.end) refl
+live_same m n shape a =
+    ap (λ l. is_between 4096 (4096 + l) a || (is_between (rounded_up 16 (4096 + l)) (rounded_up 16 (4096 + l) + length m.heap) a || is_between (stack_place m) m.end a)) shape.globals
+    ∙ ap (λ l. is_between 4096 (globals_end n) a || (is_between (heap_start n) (heap_start n + l) a || is_between (stack_place m) m.end a)) shape.heap
+    ∙ ap (λ l. is_between 4096 (globals_end n) a || (is_between (heap_start n) (heap_top n) a || is_between (m.end - l) m.end a)) shape.stack
+    ∙ ap (λ e. is_between 4096 (globals_end n) a || (is_between (heap_start n) (heap_top n) a || is_between (e - length n.stack) e a)) shape.end
 
 pub top_same : (m n : Memory) → SameShape m n → heap_top m ≡ heap_top n
-top_same m n shape = rw (shape.globals, shape.heap) refl
+top_same m n shape = ap₂ (λ g h. rounded_up 16 (4096 + g) + h) shape.globals shape.heap
 
 pub place_same : (m n : Memory) → SameShape m n → stack_place m ≡ stack_place n
-place_same m n shape = rw (shape.stack, shape.end) refl
+place_same m n shape = ap₂ (λ e l. e - l) shape.end shape.stack
 
 -- ---- a byte behind a store
 
@@ -80,46 +84,56 @@ module _ (m : Memory) (address : ℕ) (new : List ℕ) (a : ℕ) where
 -- ---- equal memories
 
 module _ (m n : Memory) (shape : SameShape m n) (parted : heap_top m ≤ stack_place m) (short : length m.stack ≤ m.end) (byte : (a : ℕ) → is_live_byte m a ≡ true → byte_at m a ≡ byte_at n a) where
+  global_at : (k a : ℕ) → a ≡ 4096 + k → k < length m.globals → slice_index m.globals k ≡ slice_index n.globals k
+  global_at k a is below =
+      let here : is_between 4096 (globals_end m) a ≡ true = grind (arith, nat_tests) in
+      let there : is_between 4096 (globals_end n) a ≡ true = ap (λ l. is_between 4096 (4096 + l) a) (sym shape.globals) ∙ here in
+      let at : a - 4096 ≡ k = omega arith in
+      let live : is_live_byte m a ≡ true = rw here refl in
+      let mine : byte_at m a ≡ slice_index m.globals (a - 4096) = rw here refl in
+      let its : byte_at n a ≡ slice_index n.globals (a - 4096) = rw there refl in
+      ap (λ j. slice_index m.globals j) (sym at) ∙ sym mine ∙ byte a live ∙ its ∙ ap (λ j. slice_index n.globals j) at
+
   same_globals : m.globals ≡ n.globals
-  same_globals = ext_get_or 0 m.globals n.globals shape.globals (λ k below.
-  let a = 4096 + k in
-  let here : is_between 4096 (globals_end m) a ≡ true = grind (arith, nat_tests) in
-  let there : is_between 4096 (globals_end n) a ≡ true = rw (sym shape.globals) here in
-  let at : a - 4096 ≡ k = omega arith in
-  let mine : byte_at m a ≡ slice_index m.globals k = rw (here, at) refl in
-  let its : byte_at n a ≡ slice_index n.globals k = rw (there, at) refl in
-  sym mine ∙ byte a (rw here refl) ∙ its)
+  same_globals = ext_get_or 0 m.globals n.globals shape.globals (λ k below. global_at k (4096 + k) refl below)
+
+  heap_at : (k a : ℕ) → a ≡ heap_start m + k → k < length m.heap → slice_index m.heap k ≡ slice_index n.heap k
+  heap_at k a is below =
+      let behind = heap_behind m in
+      let start : heap_start m ≡ heap_start n = ap (λ l. rounded_up 16 (4096 + l)) shape.globals in
+      let out : is_between 4096 (globals_end m) a ≡ false = grind (arith, nat_tests, behind) in
+      let here : is_between (heap_start m) (heap_top m) a ≡ true = grind (arith, nat_tests) in
+      let out' : is_between 4096 (globals_end n) a ≡ false = ap (λ l. is_between 4096 (4096 + l) a) (sym shape.globals) ∙ out in
+      let here' : is_between (heap_start n) (heap_top n) a ≡ true = ap₂ (λ p l. is_between p (p + l) a) (sym start) (sym shape.heap) ∙ here in
+      let at : a - heap_start m ≡ k = omega arith in
+      let at' : a - heap_start n ≡ k = ap (λ p. a - p) (sym start) ∙ at in
+      let live : is_live_byte m a ≡ true = rw (out, here) refl in
+      let mine : byte_at m a ≡ slice_index m.heap (a - heap_start m) = rw (out, here) refl in
+      let its : byte_at n a ≡ slice_index n.heap (a - heap_start n) = rw (out', here') refl in
+      ap (λ j. slice_index m.heap j) (sym at) ∙ sym mine ∙ byte a live ∙ its ∙ ap (λ j. slice_index n.heap j) at'
 
   same_heap : m.heap ≡ n.heap
-  same_heap = ext_get_or 0 m.heap n.heap shape.heap (λ k below.
-  let a = heap_start m + k in
-  let behind = heap_behind m in
-  let start : heap_start m ≡ heap_start n = rw shape.globals refl in
-  let out : is_between 4096 (globals_end m) a ≡ false = grind (arith, nat_tests) in
-  let here : is_between (heap_start m) (heap_top m) a ≡ true = grind (arith, nat_tests) in
-  let out' : is_between 4096 (globals_end n) a ≡ false = rw (sym shape.globals) out in
-  let here' : is_between (heap_start n) (heap_top n) a ≡ true = rw (sym shape.globals, sym shape.heap) here in
-  let at : a - heap_start m ≡ k = omega arith in
-  let at' : a - heap_start n ≡ k = omega (arith, start) in
-  let mine : byte_at m a ≡ slice_index m.heap k = rw (out, here, at) refl in
-  let its : byte_at n a ≡ slice_index n.heap k = rw (out', here', at') refl in
-  sym mine ∙ byte a (rw (out, here) refl) ∙ its)
+  same_heap = ext_get_or 0 m.heap n.heap shape.heap (λ k below. heap_at k (heap_start m + k) refl below)
+
+  stack_at : (k a : ℕ) → a ≡ stack_place m + k → k < length m.stack → slice_index m.stack k ≡ slice_index n.stack k
+  stack_at k a is below =
+      let behind = heap_behind m in
+      let place = place_same m n shape in
+      let start : heap_start m ≡ heap_start n = ap (λ l. rounded_up 16 (4096 + l)) shape.globals in
+      let out : is_between 4096 (globals_end m) a ≡ false = grind (arith, nat_tests, behind, parted) in
+      let over : is_between (heap_start m) (heap_top m) a ≡ false = grind (arith, nat_tests, parted) in
+      let here : is_between (stack_place m) m.end a ≡ true = grind (arith, nat_tests, short) in
+      let out' : is_between 4096 (globals_end n) a ≡ false = ap (λ l. is_between 4096 (4096 + l) a) (sym shape.globals) ∙ out in
+      let over' : is_between (heap_start n) (heap_top n) a ≡ false = ap₂ (λ p l. is_between p (p + l) a) (sym start) (sym shape.heap) ∙ over in
+      let at : a - stack_place m ≡ k = omega arith in
+      let at' : a - stack_place n ≡ k = ap (λ p. a - p) (sym place) ∙ at in
+      let live : is_live_byte m a ≡ true = rw (out, over, here) refl in
+      let mine : byte_at m a ≡ slice_index m.stack (a - stack_place m) = rw (out, over) refl in
+      let its : byte_at n a ≡ slice_index n.stack (a - stack_place n) = rw (out', over') refl in
+      ap (λ j. slice_index m.stack j) (sym at) ∙ sym mine ∙ byte a live ∙ its ∙ ap (λ j. slice_index n.stack j) at'
 
   same_stack : m.stack ≡ n.stack
-  same_stack = ext_get_or 0 m.stack n.stack shape.stack (λ k below.
-  let a = stack_place m + k in
-  let behind = heap_behind m in
-  let place = place_same m n shape in
-  let out : is_between 4096 (globals_end m) a ≡ false = grind (arith, nat_tests) in
-  let over : is_between (heap_start m) (heap_top m) a ≡ false = grind (arith, nat_tests) in
-  let here : is_between (stack_place m) m.end a ≡ true = grind (arith, nat_tests) in
-  let out' : is_between 4096 (globals_end n) a ≡ false = rw (sym shape.globals) out in
-  let over' : is_between (heap_start n) (heap_top n) a ≡ false = rw (sym shape.globals, sym shape.heap) over in
-  let at : a - stack_place m ≡ k = omega arith in
-  let at' : a - stack_place n ≡ k = omega (arith, place) in
-  let mine : byte_at m a ≡ slice_index m.stack k = rw (out, over, at) refl in
-  let its : byte_at n a ≡ slice_index n.stack k = rw (out', over', at') refl in
-  sym mine ∙ byte a (rw (out, over, here) refl) ∙ its)
+  same_stack = ext_get_or 0 m.stack n.stack shape.stack (λ k below. stack_at k (stack_place m + k) refl below)
 
   -- the same bytes make the same memory
   pub memory_same : m ≡ n

@@ -53,11 +53,11 @@ module _ (limits : Limits) (start : FlatState) (tape : Tape) (s : Metered Judged
         elim (live_apart m a (byte_live a has)) [
           | inl low ↦
               let below : a < stack_place m - 16384 = omega (arith, low, laid.room, laid.end, small) in
-              grind (arith, nat_tests)
+              grind (arith, nat_tests, below)
           | inr high ↦
               let room : 16384 ≤ stack_place m = omega (arith, laid.room, laid.end, small) in
               let above = high.0 in
-              grind (arith, nat_tests)
+              grind (arith, nat_tests, room, above)
         ]
 
     pub call_clear : share_byte (plain base 4) (plain (stack_place m - 16384) 16384) ≡ false
