@@ -2,7 +2,7 @@
 use Rattle.std.proofs.Common.{◌≡◌, ℕ, ℤ, ◌+◌, Some, refl, sym, ap, ◌∙◌, arith}
 use Rattle.css_base.specs.declared.ending.Ending.{Ending}
 use Rattle.css_semantics.specs.Dialogue.{World, Tape, Outcome, Goes, Stops, Stopped, Tired}
-use Rattle.css_semantics.specs.Flat.{flat}
+use Rattle.css_semantics.specs.Flat.{FlatState, flat}
 use Rattle.css_small.specs.Tree.{Program}
 use Rattle.css_small.specs.Numbers.{HasNumbers}
 use Rattle.css_small_code.specs.Meaning.{source}
@@ -15,7 +15,7 @@ MoreFuel = (w : World) (fuel more : ℕ) (p : Program) → Extends (source w fue
 
 -- in the flat world, units end a program before a fuel of one more than they are does
 abbrev pub EnoughFuel : Type 0
-EnoughFuel = (memory units : ℕ) (p : Program) (tape : Tape) → HasNumbers p → source (flat memory units) (units + 1) p ≡ Stops Tired tape → ⊥
+EnoughFuel = (start : FlatState) (units : ℕ) (p : Program) (tape : Tape) → HasNumbers p → source (flat start units) (units + 1) p ≡ Stops Tired tape → ⊥
 
 -- an outcome with an ending is that of more fuel too
 settled : (o more : Outcome ℤ) (ending : Ending) → ending_of o ≡ Some ending → Extends o more → more ≡ o
@@ -39,5 +39,5 @@ untired (Stops (Stopped stop line) tape) never = (_, refl)
 untired (Stops Tired tape) never = absurd (never tape refl)
 
 -- a program has an ending in the flat world
-pub source_ends : EnoughFuel → (memory units : ℕ) (p : Program) → HasNumbers p → (ending : Ending) × (ending_of (source (flat memory units) (units + 1) p) ≡ Some ending)
-source_ends enough memory units p numbers = untired (source (flat memory units) (units + 1) p) (λ tape. enough memory units p tape numbers)
+pub source_ends : EnoughFuel → (start : FlatState) (units : ℕ) (p : Program) → HasNumbers p → (ending : Ending) × (ending_of (source (flat start units) (units + 1) p) ≡ Some ending)
+source_ends enough start units p numbers = untired (source (flat start units) (units + 1) p) (λ tape. enough start units p tape numbers)

@@ -2,7 +2,8 @@
 use Rattle.std.proofs.Common.{◌≡◌, ◌≤◌, ℕ, inl, inr, List, [], ◌++◌, map, Option, Some, refl, ap, subst, arith}
 use Rattle.css_base.specs.declared.limits.Limits.{Limits}
 use Rattle.css_semantics.specs.Dialogue.{Tape, tape_of}
-use Rattle.css_semantics.specs.Flat.{no_frames, flat}
+use Rattle.css_semantics.specs.Flat.{FlatState, flat}
+use Rattle.css_main_side.specs.Playing.{begins}
 use Rattle.css_semantics.specs.Verdict.{Verdict, verdict, judged_in}
 use Rattle.css_lexemes.specs.Lines.{erased}
 use Rattle.css_small.specs.Tree.{Program}
@@ -25,9 +26,9 @@ use Rattle.css_driver.proofs.Words.{asks_nothing, one_request}
 
 -- what css_erasing says of a program under the rules and of the program without its directives
 pub record ErasingLaws : Type 0 where
-  pub verdicts : (limits : Limits) (fuel enough n : ℕ) (p : Program) (v : Verdict) → verdict (no_frames limits.memory) (source (judged_in limits) fuel p) ≡ Some v → entries (tape_of (source (judged_in limits) fuel p)) ≤ n → fuel ≤ enough → Answers v.ending v.output (source (flat limits.memory n) enough (unmarked p))
-  pub passed : (limits : Limits) (fuel enough n : ℕ) (p : Program) (newer tape : Tape) → tape_of (source (judged_in limits) fuel p) ≡ newer ++ tape → entries (tape_of (source (judged_in limits) fuel p)) ≤ n → fuel ≤ enough → IsPassed tape (tape_of (source (flat limits.memory n) enough (unmarked p)))
-  pub images : (limits : Limits) (fuel : ℕ) (p : Program) (v : Verdict) → verdict (no_frames limits.memory) (source (judged_in limits) fuel p) ≡ Some v → v.images ≡ map (erased_image (no_frames limits.memory)) (points (tape_of (source (judged_in limits) fuel p)))
+  pub verdicts : (limits : Limits) (start : FlatState) (fuel enough n : ℕ) (p : Program) (v : Verdict) → verdict start.memory (source (judged_in limits start) fuel p) ≡ Some v → entries (tape_of (source (judged_in limits start) fuel p)) ≤ n → fuel ≤ enough → Answers v.ending v.output (source (flat start n) enough (unmarked p))
+  pub passed : (limits : Limits) (start : FlatState) (fuel enough n : ℕ) (p : Program) (newer tape : Tape) → tape_of (source (judged_in limits start) fuel p) ≡ newer ++ tape → entries (tape_of (source (judged_in limits start) fuel p)) ≤ n → fuel ≤ enough → IsPassed tape (tape_of (source (flat start n) enough (unmarked p)))
+  pub images : (limits : Limits) (start : FlatState) (fuel : ℕ) (p : Program) (v : Verdict) → verdict start.memory (source (judged_in limits start) fuel p) ≡ Some v → v.images ≡ map (erased_image start.memory) (points (tape_of (source (judged_in limits start) fuel p)))
 
 -- the text without its directives spells that program
 abbrev pub SpellsUnmarked : Type 0
@@ -46,9 +47,9 @@ erased_run laws spelled limits text p a spells one =
       out_is = one.out_is;
       report_is = one.report_is;
       status_is = one.status_is;
-      answers = λ units enough few less. laws.verdicts limits one.has.0 enough units p one.v one.has.1 few less;
-      passed = λ units enough few less. laws.passed limits one.has.0 enough units p [] (tape_of (source (judged_in limits) one.has.0 p)) refl few less;
-      images = laws.images limits one.has.0 p one.v one.has.1;
+      answers = λ units enough few less. laws.verdicts limits (begins limits) one.has.0 enough units p one.v one.has.1 few less;
+      passed = λ units enough few less. laws.passed limits (begins limits) one.has.0 enough units p [] (tape_of (source (judged_in limits (begins limits)) one.has.0 p)) refl few less;
+      images = laws.images limits (begins limits) one.has.0 p one.v one.has.1;
     }
 
 given_run : ErasingLaws → SpellsUnmarked → (limits : Limits) (text : List ℕ) (a : Answer) → IsProgramAnswer Run limits text a → IsErasedRun limits text a

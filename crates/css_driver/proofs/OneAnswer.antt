@@ -1,7 +1,8 @@
 -- Words and a text have one answer.
 use Rattle.std.proofs.Common.{◌≡◌, ℕ, ◌+◌, ◌≤◌, ◌⊎◌, inl, inr, List, length, Some, refl, sym, ap, ◌∙◌, subst, arith}
 use Rattle.css_base.specs.declared.limits.Limits.{Limits}
-use Rattle.css_semantics.specs.Flat.{no_frames}
+use Rattle.css_main_side.specs.Playing.{begins}
+use Rattle.css_semantics.specs.Flat.{FlatState}
 use Rattle.css_semantics.specs.Verdict.{Verdict, verdict, judged_in}
 use Rattle.css_lex.specs.Lexing.{longest_text}
 use Rattle.css_lexemes.specs.Lines.{erased}
@@ -51,7 +52,7 @@ abbrev pub NumbersFit : Type 0
 NumbersFit = (text : List ℕ) (p : Program) → Spells text p → HasNumbers p
 
 abbrev pub HaveVerdicts : Type 0
-HaveVerdicts = (limits : Limits) (p : Program) → HasNumbers p → (v : Verdict) × (verdict (no_frames limits.memory) (source (judged_in limits) (limits.main_units + limits.task_units + 2) p) ≡ Some v)
+HaveVerdicts = (limits : Limits) (start : FlatState) (p : Program) → HasNumbers p → (v : Verdict) × (verdict start.memory (source (judged_in limits start) (limits.main_units + limits.task_units + 2) p) ≡ Some v)
 
 -- what a command gives is an answer of a request for it
 pub answer_given : (request : Request) (text : List ℕ) (command : Command) (a : Answer) → request.command ≡ command → IsProgramAnswer command request.limits text a → IsTextAnswer request text a
@@ -68,7 +69,7 @@ module _ (request : Request) (text : List ℕ) (p : Program) where
 
   pub run_has_answer : HaveVerdicts → NumbersFit → request.command ≡ commands.Run → Spells text p → (a : Answer) × IsTextAnswer request text a
   run_has_answer verdicts numbers is spells =
-      let known = verdicts request.limits p (numbers text p spells) in
+      let known = verdicts request.limits (begins request.limits) p (numbers text p spells) in
       let one = task_answer request.limits p known.0 (_, known.1) in
       (one.0, answer_given request text commands.Run one.0 is (p, spells, one.1))
 

@@ -6,7 +6,7 @@ use Rattle.css_io.proofs.Told.{Appends-more}
 use Rattle.css_semantics.specs.Dialogue.{Outcome, tape_of, output}
 use Rattle.css_semantics.specs.Memory.{Memory}
 use Rattle.css_semantics.specs.Units.{Metered, with_units}
-use Rattle.css_semantics.specs.Flat.{no_frames}
+use Rattle.css_semantics.specs.Flat.{FlatState}
 use Rattle.css_vm.specs.Code.{Code}
 use Rattle.css_vm.specs.Machine.{State, Begin, At, entry_line, answered}
 use Rattle.css_vm.specs.Soundness.{Spot, IsSound, IsAt, Fits}
@@ -28,8 +28,8 @@ module _ {S : Type 0} (told : S → Option (List ℕ)) (faults : S → ℕ) (cod
       record {
         front = [];
         got = Appends-nothing (told out);
-        running = λ memory units o ending written is run.
-            subst (λ b. Running memory units code o s space (b ++ pending)) (sym (append-nil written)) run;
+        running = λ start units o ending written is run.
+            subst (λ b. Running start units code o s space (b ++ pending)) (sym (append-nil written)) run;
         never_fell = omega arith;
       }
 
@@ -41,37 +41,37 @@ module _ {S : Type 0} (told : S → Option (List ℕ)) (faults : S → ℕ) (cod
       record {
         front = one.front ++ two.front;
         got = Appends-more (told out) (told out') (told out'') one.front two.front one.got two.got;
-        running = λ memory units o ending written is run.
-            let between = one.running memory units o ending written is run in
-            subst (λ b. Running memory units code o s'' space'' (b ++ pending'')) (append_assoc written one.front two.front)
-            (two.running memory units o ending (written ++ one.front) is between);
+        running = λ start units o ending written is run.
+            let between = one.running start units o ending written is run in
+            subst (λ b. Running start units code o s'' space'' (b ++ pending'')) (append_assoc written one.front two.front)
+            (two.running start units o ending (written ++ one.front) is between);
         never_fell = omega (arith, one.never_fell, two.never_fell);
       }
 
   -- where no more is done, the sink has a prefix
   pub gives_up : HasNoMarks code → (s : State) (space : Metered Memory) (pending : List ℕ) (out : S) → EndsRun code s space pending (change told faults out out) NoMemory
-  gives_up plain s space pending out memory units o ending written is run =
-      let more = output-running code plain memory units o s space (written ++ pending) run in
+  gives_up plain s space pending out start units o ending written is run =
+      let more = output-running code plain start units o s space (written ++ pending) run in
       (pending ++ more.0, more.1 ∙ append_assoc written pending more.0, AppendsPrefix-nothing (told out) (pending ++ more.0))
 
   -- one part, and then the last one
   pub goes_to_end : (s s' : State) (space space' : Metered Memory) (pending pending' : List ℕ) (out out' out'' : S) (ran : Ran)
       → GoesOn code s space s' space' pending pending' (change told faults out out') → EndsRun code s' space' pending' (change told faults out' out'') ran
       → EndsRun code s space pending (change told faults out out'') ran
-  goes_to_end s s' space space' pending pending' out out' out'' ran one last memory units o ending written is run =
-      let between = one.running memory units o ending written is run in
-      let ends = last memory units o ending (written ++ one.front) is between in (
+  goes_to_end s s' space space' pending pending' out out' out'' ran one last start units o ending written is run =
+      let between = one.running start units o ending written is run in
+      let ends = last start units o ending (written ++ one.front) is between in (
         one.front ++ ends.0,
         ends.1 ∙ append_assoc written one.front ends.0,
         RanAs-more told faults out out' out'' ending one.front ends.0 ran one.got one.never_fell ends.2,
       )
 
   -- the last part of a run from main's entry
-  pub ran_whole : (memory units line : ℕ) (out out' : S) (ran : Ran) → line ≡ entry_line (slice_get code.functions code.main)
-      → EndsRun code (Begin code.main [] line) (with_units (no_frames memory) units) [] (change told faults out out') ran
-      → (o : Outcome ℤ) (ending : Ending) → ComesTo memory units code o → ending_of o ≡ Some ending → RanAs ending (output (tape_of o)) (change told faults out out') ran
-  ran_whole memory units line out out' ran at last o ending comes is =
-      let ends = last memory units o ending [] is (running_begun memory units code o line at comes) in
+  pub ran_whole : (start : FlatState) (units line : ℕ) (out out' : S) (ran : Ran) → line ≡ entry_line (slice_get code.functions code.main)
+      → EndsRun code (Begin code.main [] line) (with_units start.start units) [] (change told faults out out') ran
+      → (o : Outcome ℤ) (ending : Ending) → ComesTo start units code o → ending_of o ≡ Some ending → RanAs ending (output (tape_of o)) (change told faults out out') ran
+  ran_whole start units line out out' ran at last o ending comes is =
+      let ends = last start units o ending [] is (running_begun start units code o line at comes) in
       subst (λ b. RanAs ending b (change told faults out out') ran) (sym ends.1) ends.2
 
 -- sound code fits before main's entry

@@ -4,6 +4,7 @@ use Rattle.css_base.specs.declared.limits.Limits.{Limits}
 use Rattle.css_base.specs.declared.ending.Ending.{Ending}
 use Rattle.css_base.specs.declared.ending.Ending.TheVariants as endings
 use Rattle.css_base.specs.declared.ending.Stop.TheVariants as stops
+use Rattle.css_main_side.specs.Playing.{begins}
 use Rattle.css_semantics.specs.Dialogue.{World, Outcome, Goes, Stops, Stopped, Tired, tape_of, output}
 use Rattle.css_semantics.specs.Flat.{flat}
 use Rattle.css_vm.specs.Code.{Code}
@@ -24,7 +25,7 @@ use Rattle.css_main_side.proofs.Sinks.{AppendsPrefix-whole}
 abbrev pub answer_from : Ending → List ℕ → Answer
 answer_from ending out = record { out = out; report = ending_line ending; status = ending_status ending }
 
-pub answer_from-is : (limits : Limits) (p : Program) (fuel : ℕ) (o : Outcome ℤ) (ending : Ending) → source (flat limits.memory limits.main_units) fuel p ≡ o → ending_of o ≡ Some ending
+pub answer_from-is : (limits : Limits) (p : Program) (fuel : ℕ) (o : Outcome ℤ) (ending : Ending) → source (flat (begins limits) limits.main_units) fuel p ≡ o → ending_of o ≡ Some ending
     → IsRunAnswer limits p (answer_from ending (output (tape_of o)))
 answer_from-is limits p fuel o ending comes is =
     record {
@@ -42,7 +43,7 @@ answer_of_parts a b outs reports statuses =
 -- a program's run has one answer
 pub one_run_answer : MoreFuel → (limits : Limits) (p : Program) (a b : Answer) → IsRunAnswer limits p a → IsRunAnswer limits p b → a ≡ b
 one_run_answer more_fuel limits p a b one other =
-    let same = one_outcome more_fuel (flat limits.memory limits.main_units) p one.runs.fuel other.runs.fuel one.ending other.ending one.runs.ending_is other.runs.ending_is in
+    let same = one_outcome more_fuel (flat (begins limits) limits.main_units) p one.runs.fuel other.runs.fuel one.ending other.ending one.runs.ending_is other.runs.ending_is in
     let some : Some one.ending ≡ Some other.ending = sym one.runs.ending_is ∙ ap ending_of same ∙ other.runs.ending_is in
     let ends : one.ending ≡ other.ending = cc in
     answer_of_parts a b (one.runs.out_is ∙ ap (λ o. output (tape_of o)) same ∙ sym other.runs.out_is)
@@ -76,13 +77,13 @@ comes_to w fuel code p codes (Stops Tired tape) ending same is = absurd (cc)
 pub record Known (limits : Limits) (code : Code) (p : Program) : Type 0 where
   pub o : Outcome ℤ
   pub ending : Ending
-  pub comes : ComesTo limits.memory limits.main_units code o
+  pub comes : ComesTo (begins limits) limits.main_units code o
   pub ends : ending_of o ≡ Some ending
   pub answer_is : IsRunAnswer limits p (answer_from ending (output (tape_of o)))
 
-known_from : (limits : Limits) (code : Code) (p : Program) → Codes code p → (fuel : ℕ) (ending : Ending) → ending_of (source (flat limits.memory limits.main_units) fuel p) ≡ Some ending → Known limits code p
+known_from : (limits : Limits) (code : Code) (p : Program) → Codes code p → (fuel : ℕ) (ending : Ending) → ending_of (source (flat (begins limits) limits.main_units) fuel p) ≡ Some ending → Known limits code p
 known_from limits code p codes fuel ending is =
-    let w = flat limits.memory limits.main_units in
+    let w = flat (begins limits) limits.main_units in
     record {
       o = source w fuel p;
       ending = ending;
@@ -94,14 +95,14 @@ known_from limits code p codes fuel ending is =
 -- a program's code comes to what the program does, which has an ending
 pub known : EnoughFuel → (limits : Limits) (code : Code) (p : Program) → HasNumbers p → Codes code p → Known limits code p
 known enough limits code p numbers codes =
-    let ends = source_ends enough limits.memory limits.main_units p numbers in
+    let ends = source_ends enough (begins limits) limits.main_units p numbers in
     known_from limits code p codes (limits.main_units + 1) ends.0 ends.1
 
 -- a program's run has an answer
 pub run_answer : EnoughFuel → (limits : Limits) (p : Program) → HasNumbers p → (a : Answer) × IsRunAnswer limits p a
 run_answer enough limits p numbers =
-    let ends = source_ends enough limits.memory limits.main_units p numbers in
-    (_, answer_from-is limits p (limits.main_units + 1) (source (flat limits.memory limits.main_units) (limits.main_units + 1) p) ends.0 refl ends.1)
+    let ends = source_ends enough (begins limits) limits.main_units p numbers in
+    (_, answer_from-is limits p (limits.main_units + 1) (source (flat (begins limits) limits.main_units) (limits.main_units + 1) p) ends.0 refl ends.1)
 
 module _ (more_fuel : MoreFuel) (limits : Limits) (code : Code) (p : Program) (k : Known limits code p) where
   -- a prefix of the run's output is one of its answer's

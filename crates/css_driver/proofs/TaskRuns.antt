@@ -3,7 +3,6 @@ use Rattle.std.proofs.Common.{◌≡◌, ℕ, ℤ, ◌⊎◌, inl, inr, List, []
 use Rattle.css_base.specs.declared.limits.Limits.{Limits}
 use Rattle.css_semantics.specs.Dialogue.{World, Outcome, Goes, Stops, Stopped, Tired}
 use Rattle.css_semantics.specs.Memory.{Memory}
-use Rattle.css_semantics.specs.Flat.{no_frames}
 use Rattle.css_semantics.specs.Verdict.{Verdict, verdict, judged_in}
 use Rattle.css_vm.specs.Code.{Routine, Shape, Code}
 use Rattle.css_small.specs.Tree.{Program}
@@ -13,7 +12,7 @@ use Rattle.css_small_code.specs.Correct.{Codes}
 use Rattle.css_small_code.specs.Tasks.{TasksTakePointers}
 use Rattle.css_io.specs.Changes.{Change, Got, GotPrefix}
 use Rattle.css_main_side.specs.Plain.{IsPlainShape, HasPlainTasks}
-use Rattle.css_main_side.specs.Playing.{ComesToVerdict}
+use Rattle.css_main_side.specs.Playing.{begins, ComesToVerdict}
 use Rattle.css_main_side.proofs.Sinks.{AppendsPrefix-whole}
 use Rattle.css_driver.specs.Answer.{Answer, HasVerdict, IsTaskAnswer, ending_line, ending_status, no_memory}
 use Rattle.css_driver.specs.Ends as ways
@@ -36,7 +35,7 @@ verdict_answer-is limits p v has = record { v = v; has = has; out_is = refl; rep
 -- a program's run has one answer
 pub one_task_answer : OneVerdict → (limits : Limits) (p : Program) (a b : Answer) → IsTaskAnswer limits p a → IsTaskAnswer limits p b → a ≡ b
 one_task_answer only limits p a b one other =
-    let same = only (no_frames limits.memory) (judged_in limits) p one.has.0 other.has.0 one.v other.v one.has.1 other.has.1 in
+    let same = only (begins limits).memory (judged_in limits (begins limits)) p one.has.0 other.has.0 one.v other.v one.has.1 other.has.1 in
     answer_of_parts a b (one.out_is ∙ ap (λ (v : Verdict). v.output) same ∙ sym other.out_is)
     (one.report_is ∙ ap (λ (v : Verdict). ending_line v.ending) same ∙ sym other.report_is)
     (one.status_is ∙ ap (λ (v : Verdict). ending_status v.ending) same ∙ sym other.status_is)
@@ -50,18 +49,18 @@ task_answer_status limits p a one = subst IsRunStatus (sym one.status_is) (endin
 
 -- ---- the run of a program's code
 
-comes_from : (limits : Limits) (code : Code) (p : Program) → Codes code p → (fuel : ℕ) (v : Verdict) (o : Outcome ℤ) → source (judged_in limits) fuel p ≡ o → verdict (no_frames limits.memory) o ≡ Some v → ComesToVerdict limits code v
+comes_from : (limits : Limits) (code : Code) (p : Program) → Codes code p → (fuel : ℕ) (v : Verdict) (o : Outcome ℤ) → source (judged_in limits (begins limits)) fuel p ≡ o → verdict (begins limits).memory o ≡ Some v → ComesToVerdict limits (begins limits) code v
 comes_from limits code p codes fuel v (Goes value tape) same is =
-    let n = (codes.main (judged_in limits)).finishes fuel value tape same in
+    let n = (codes.main (judged_in limits (begins limits))).finishes fuel value tape same in
     record { steps = n.0; outcome = Goes value tape; comes = n.1; is = is }
 comes_from limits code p codes fuel v (Stops (Stopped stop line) tape) same is =
-    let n = (codes.main (judged_in limits)).stops fuel stop line tape same in
+    let n = (codes.main (judged_in limits (begins limits))).stops fuel stop line tape same in
     record { steps = n.0; outcome = Stops (Stopped stop line) tape; comes = n.1; is = is }
 comes_from limits code p codes fuel v (Stops Tired tape) same is = absurd (cc)
 
 -- a program's code comes to the program's verdict
-pub comes_to_verdict : (limits : Limits) (code : Code) (p : Program) → Codes code p → (v : Verdict) → HasVerdict limits p v → ComesToVerdict limits code v
-comes_to_verdict limits code p codes v (fuel, is) = comes_from limits code p codes fuel v (source (judged_in limits) fuel p) refl is
+pub comes_to_verdict : (limits : Limits) (code : Code) (p : Program) → Codes code p → (v : Verdict) → HasVerdict limits p v → ComesToVerdict limits (begins limits) code v
+comes_to_verdict limits code p codes v (fuel, is) = comes_from limits code p codes fuel v (source (judged_in limits (begins limits)) fuel p) refl is
 
 -- tasks that take pointers are plain
 pub plain_tasks : (code : Code) → TasksTakePointers code → HasPlainTasks code

@@ -12,8 +12,8 @@ use Rattle.css_semantics.specs.Worlds.{state_after, AreOfMachine, Follows}
 use Rattle.css_semantics.specs.Memory.{Memory, stack_place, after}
 use Rattle.css_semantics.specs.Tasks.{is_started}
 use Rattle.css_semantics.specs.Units.{Metered, with_units, metered, spending}
-use Rattle.css_semantics.specs.Flat.{flat, reply_in, no_frames}
-use Rattle.css_semantics.proofs.FlatWorld.{flat-follows}
+use Rattle.css_semantics.specs.Flat.{FlatState, flat, memory_reply}
+use Rattle.css_semantics.proofs.FlatWorld.{flat-follows, memory_along}
 use Rattle.css_semantics.proofs.Following.{after_both, same_output, same_started}
 use Rattle.css_vm.specs.declared.code.MarkKind.{MarkKind}
 use Rattle.css_vm.specs.declared.code.MarkKind.TheVariants as marks
@@ -79,9 +79,9 @@ module _ (cell base frame line : ℕ) (later : Tape) where
   left_output Fails = append-nil (output later ++ []) ∙ append-nil (output later)
   left_output (Refuses rule) = refl
 
-  module _ (memory units : ℕ) where
+  module _ (start : FlatState) (units : ℕ) where
     abbrev w : World
-    w = flat memory units
+    w = flat start units
 
     left_by : (reply : Reply) → then_do (replied reply (item (Leave base frame) line) later) (λ r t. then_do (ask w (End (int_of cell)) line t) (λ r' t'. Goes (Some (int_of cell)) t')) ≡ halted (left reply)
     unfolding left
@@ -99,11 +99,11 @@ module _ (cell base frame line : ℕ) (later : Tape) where
 
 -- ---- a run on its way
 
-module _ (code : Code) (plain : HasNoMarks code) (memory units : ℕ) (o : Outcome ℤ) where
+module _ (code : Code) (plain : HasNoMarks code) (start : FlatState) (units : ℕ) (o : Outcome ℤ) where
   -- what a run on its way still writes
-  pub output-running : (s : State) (space : Metered Memory) (written : List ℕ) → Running memory units code o s space written → (more : List ℕ) × (output (tape_of o) ≡ written ++ more)
+  pub output-running : (s : State) (space : Metered Memory) (written : List ℕ) → Running start units code o s space written → (more : List ℕ) × (output (tape_of o) ≡ written ++ more)
   output-running s space written run =
-      let world = flat memory units in
+      let world = flat start units in
       let whole = then_do (exec world code run.steps s run.so_far) (main_ends world (main_frame code)) in
       let last : tape_of whole ≡ tape_of o = ap tape_of run.goes ∙ tape_of-halted o in
       let grown : Extends IsAny run.so_far (tape_of o) = subst (λ t. Extends IsAny run.so_far t) last (target-extends world code plain (main_frame code) run.steps s run.so_far) in
@@ -111,28 +111,28 @@ module _ (code : Code) (plain : HasNoMarks code) (memory units : ℕ) (o : Outco
 
   module _ (ending : Ending) (is : ending_of o ≡ Some ending) (old new : State) (space space' : Metered Memory) (written : List ℕ) where
     -- the steps to an event, and then those of a run on its way
-    ran_further : (steps : ℕ) → (run : Running memory units code o old space written)
-        → then_do (exec (flat memory units) code (steps + suc run.steps) old run.so_far) (main_ends (flat memory units) (main_frame code)) ≡ halted o
+    ran_further : (steps : ℕ) → (run : Running start units code o old space written)
+        → then_do (exec (flat start units) code (steps + suc run.steps) old run.so_far) (main_ends (flat start units) (main_frame code)) ≡ halted o
     ran_further steps run =
-        let world = flat memory units in
+        let world = flat start units in
         let e : run.steps + suc steps ≡ steps + suc run.steps = omega arith in
         subst (λ n. then_do (exec world code n old run.so_far) (main_ends world (main_frame code)) ≡ halted o) e
         (target-more world code (main_ends world (main_frame code)) (halted o) (settled o ending is) run.steps (suc steps) old run.so_far run.goes)
 
     -- the machine alone adds to the tape up to an event, writes nothing and makes no tasks
-    pub record Comes (e : Event) (run : Running memory units code o old space written) : Type 0 where
+    pub record Comes (e : Event) (run : Running start units code o old space written) : Type 0 where
       pub later : Tape
-      pub does : Does (flat memory units) code old e new run.so_far later
+      pub does : Does (flat start units) code old e new run.so_far later
       pub wrote : output later ≡ written
       pub none : is_started later ≡ false
 
-    comes : (e : Event) → (reaches : Reaches (metered reply_in) (spending after) code old space e new space') → (run : Running memory units code o old space written)
-        → (c : Comes e run) × (state_after (spending after) (with_units (no_frames memory) units) c.later ≡ reaches.end)
+    comes : (e : Event) → (reaches : Reaches (metered memory_reply) (spending after) code old space e new space') → (run : Running start units code o old space written)
+        → (c : Comes e run) × (state_after (spending after) (with_units start.start units) c.later ≡ reaches.end)
     comes e reaches run =
-        let start = with_units (no_frames memory) units in
-        let follows : Follows (flat memory units) (metered reply_in) (spending after) run.so_far space =
-        subst (λ s. Follows (flat memory units) (metered reply_in) (spending after) run.so_far s) run.space_is (flat-follows memory units run.so_far) in
-        let there = reaches.does (flat memory units) run.so_far follows in
+        let from = with_units start.start units in
+        let follows : Follows (flat start units) (metered memory_reply) (spending after) run.so_far space =
+        subst (λ s. Follows (flat start units) (metered memory_reply) (spending after) run.so_far s) run.space_is (flat-follows start units run.so_far) in
+        let there = reaches.does (flat start units) run.so_far follows in
         let more = there.0 in (
           record {
             later = more ++ run.so_far;
@@ -140,58 +140,58 @@ module _ (code : Code) (plain : HasNoMarks code) (memory units : ℕ) (o : Outco
             wrote = same_output more run.so_far there.1 ∙ run.written_is;
             none = same_started more run.so_far there.1 ∙ run.no_tasks;
           },
-          after_both (spending after) start more run.so_far ∙ ap (λ s. state_after (spending after) s more) run.space_is ∙ there.2,
+          after_both (spending after) from more run.so_far ∙ ap (λ s. state_after (spending after) s more) run.space_is ∙ there.2,
         )
 
     -- at main's return the run ends as main's leaving says, and writes no more
-    pub running_ended : (value line : ℕ) → Reaches (metered reply_in) (spending after) code old space (events.Ended value line) new space' → base_of new ≡ stack_place space'.state
-        → Running memory units code o old space written → (left_with (reply_to_leaving code space'.state) value line ≡ ending) × (output (tape_of o) ≡ written)
+    pub running_ended : (value line : ℕ) → Reaches (metered memory_reply) (spending after) code old space (events.Ended value line) new space' → base_of new ≡ stack_place space'.state
+        → Running start units code o old space written → (left_with (reply_to_leaving code space'.state) value line ≡ ending) × (output (tape_of o) ≡ written)
     running_ended value line reaches at_place run =
         let there = comes (events.Ended value line) reaches run in
         let c = there.0 in
         let base = base_of new in
         let frame = main_frame code in
         let steps = c.does.0 in
-        let world = flat memory units in
+        let world = flat start units in
         let reply = reply_to_leaving code space'.state in
         let replies : world c.later (item (Leave base frame) line) ≡ reply =
-        ap (λ (s : Metered Memory). reply_in s.state (Leave base frame)) (there.1 ∙ reaches.is_left) ∙ ap (λ b. reply_in space'.state (Leave b frame)) at_place in
+        ap (λ (s : Metered Memory). memory_reply s.state (Leave base frame)) (memory_along (with_units start units) c.later ∙ there.1 ∙ reaches.is_left) ∙ ap (λ b. memory_reply space'.state (Leave b frame)) at_place in
         let ended : halted o ≡ halted (left value base frame line c.later reply) =
-        sym (ran_further steps run) ∙ ap (λ q. then_do q (main_ends world frame)) (c.does.1 run.steps) ∙ main_left value base frame line c.later memory units reply c.none replies in
+        sym (ran_further steps run) ∙ ap (λ q. then_do q (main_ends world frame)) (c.does.1 run.steps) ∙ main_left value base frame line c.later start units reply c.none replies in
         ended_as o (left value base frame line c.later reply) ending (left_with reply value line) written ended is
         (left_ending value base frame line c.later reply) (left_output value base frame line c.later reply ∙ c.wrote)
 
     -- at a stop the run has it, and writes no more
-    pub running_stopped : (stop : Stop) (line : ℕ) → Reaches (metered reply_in) (spending after) code old space (events.Stopped stop line) new space' → Running memory units code o old space written
+    pub running_stopped : (stop : Stop) (line : ℕ) → Reaches (metered memory_reply) (spending after) code old space (events.Stopped stop line) new space' → Running start units code o old space written
         → (endings.Stopped stop line Main ≡ ending) × (output (tape_of o) ≡ written)
     running_stopped stop line reaches run =
         let c = (comes (events.Stopped stop line) reaches run).0 in
         let last : Outcome ℤ = Stops (Stopped stop line) c.later in
-        let ended : halted o ≡ halted last = sym (ran_further c.does.0 run) ∙ ap (λ q. then_do q (main_ends (flat memory units) (main_frame code))) (c.does.1 run.steps) in
+        let ended : halted o ≡ halted last = sym (ran_further c.does.0 run) ∙ ap (λ q. then_do q (main_ends (flat start units) (main_frame code))) (c.does.1 run.steps) in
         ended_as o last ending (endings.Stopped stop line Main) written ended is refl c.wrote
 
     -- after an output the run goes on, with its bytes written
-    pub running_out : (bytes : List ℕ) → Reaches (metered reply_in) (spending after) code old space (events.Out bytes) new space' → Running memory units code o old space written
-        → Running memory units code o (answered (length bytes) new) space' (written ++ bytes)
+    pub running_out : (bytes : List ℕ) → Reaches (metered memory_reply) (spending after) code old space (events.Out bytes) new space' → Running start units code o old space written
+        → Running start units code o (answered (length bytes) new) space' (written ++ bytes)
     running_out bytes reaches run =
         let there = comes (events.Out bytes) reaches run in
         let c = there.0 in
         record {
           steps = run.steps;
           so_far = item (Out bytes) c.does.1 ∷ c.later;
-          goes = ap (λ q. then_do q (main_ends (flat memory units) (main_frame code))) (sym (c.does.2 run.steps)) ∙ ran_further c.does.0 run;
+          goes = ap (λ q. then_do q (main_ends (flat start units) (main_frame code))) (sym (c.does.2 run.steps)) ∙ ran_further c.does.0 run;
           space_is = there.1 ∙ reaches.is_left;
           written_is = ap (λ b. b ++ bytes) c.wrote;
           no_tasks = c.none;
         }
 
     -- asked whether tasks are made, the run goes on with 0
-    pub running_asked : (line : ℕ) → Reaches (metered reply_in) (spending after) code old space (events.Mark marks.Started line) new space' → Running memory units code o old space written
-        → Running memory units code o (answered 0 new) space' written
+    pub running_asked : (line : ℕ) → Reaches (metered memory_reply) (spending after) code old space (events.Mark marks.Started line) new space' → Running start units code o old space written
+        → Running start units code o (answered 0 new) space' written
     running_asked line reaches run =
         let there = comes (events.Mark marks.Started line) reaches run in
         let c = there.0 in
-        let world = flat memory units in
+        let world = flat start units in
         let does : exec world code (c.does.0 + suc run.steps) old run.so_far ≡ exec world code run.steps (answered 0 new) c.later =
         c.does.1 run.steps ∙ ap (λ b. exec world code run.steps (answered (truth b) new) c.later) c.none in
         record {
@@ -204,10 +204,10 @@ module _ (code : Code) (plain : HasNoMarks code) (memory units : ℕ) (o : Outco
         }
 
 -- a whole run is on its way from main's entry
-pub running_begun : (memory units : ℕ) (code : Code) (o : Outcome ℤ) (line : ℕ) → line ≡ entry_line (slice_get code.functions code.main) → ComesTo memory units code o
-    → Running memory units code o (Begin code.main [] line) (with_units (no_frames memory) units) []
-running_begun memory units code o line is (n, goes) =
-    let w = flat memory units in
+pub running_begun : (start : FlatState) (units : ℕ) (code : Code) (o : Outcome ℤ) (line : ℕ) → line ≡ entry_line (slice_get code.functions code.main) → ComesTo start units code o
+    → Running start units code o (Begin code.main [] line) (with_units start.start units) []
+running_begun start units code o line is (n, goes) =
+    let w = flat start units in
     record {
       steps = n;
       so_far = [];
@@ -221,32 +221,32 @@ running_begun memory units code o line is (n, goes) =
 
 -- up to an output, whose bytes pass through the buffer
 pub turn_out : (code : Code) → HasNoMarks code → (old new : State) (space space' : Metered Memory) (bytes pending pending' : List ℕ) (c : Change)
-    → Reaches (metered reply_in) (spending after) code old space (events.Out bytes) new space'
+    → Reaches (metered memory_reply) (spending after) code old space (events.Out bytes) new space'
     → Passes c (pending ++ bytes) pending' → c.faults_before ≤ c.faults_after → GoesOn code old space (answered (length bytes) new) space' pending pending' c
 turn_out code plain old new space space' bytes pending pending' c reaches (front, parts, got) never_fell =
     record {
       front = front;
       got = got;
-      running = λ memory units o ending written is run.
+      running = λ start units o ending written is run.
           let wrote : (written ++ pending) ++ bytes ≡ (written ++ front) ++ pending' =
           append_assoc written pending bytes ∙ ap (λ b. written ++ b) parts ∙ sym (append_assoc written front pending') in
-          subst (λ b. Running memory units code o (answered (length bytes) new) space' b) wrote
-          (running_out code plain memory units o ending is old new space space' (written ++ pending) bytes reaches run);
+          subst (λ b. Running start units code o (answered (length bytes) new) space' b) wrote
+          (running_out code plain start units o ending is old new space space' (written ++ pending) bytes reaches run);
       never_fell = never_fell;
     }
 
 -- up to a question whether tasks are made
 pub turn_asked : {S : Type 0} (told : S → Option (List ℕ)) (faults : S → ℕ) (code : Code) → HasNoMarks code → (old new : State) (space space' : Metered Memory) (kind : MarkKind) (line : ℕ) (pending : List ℕ) (out : S)
-    → Reaches (metered reply_in) (spending after) code old space (events.Mark kind line) new space' → kind ≡ marks.Started
+    → Reaches (metered memory_reply) (spending after) code old space (events.Mark kind line) new space' → kind ≡ marks.Started
     → GoesOn code old space (answered 0 new) space' pending pending (change told faults out out)
 turn_asked told faults code plain old new space space' kind line pending out reaches asks =
     record {
       front = [];
       got = Appends-nothing (told out);
-      running = λ memory units o ending written is run.
-          let asked = subst (λ k. Reaches (metered reply_in) (spending after) code old space (events.Mark k line) new space') asks reaches in
-          subst (λ b. Running memory units code o (answered 0 new) space' (b ++ pending)) (sym (append-nil written))
-          (running_asked code plain memory units o ending is old new space space' (written ++ pending) line asked run);
+      running = λ start units o ending written is run.
+          let asked = subst (λ k. Reaches (metered memory_reply) (spending after) code old space (events.Mark k line) new space') asks reaches in
+          subst (λ b. Running start units code o (answered 0 new) space' (b ++ pending)) (sym (append-nil written))
+          (running_asked code plain start units o ending is old new space space' (written ++ pending) line asked run);
       never_fell = omega arith;
     }
 

@@ -2,11 +2,11 @@
 use Rattle.std.proofs.Common.{◌≡◌, ℕ, zero, suc, ◌+◌, ◌∷◌, [], ◌++◌, IsTrue, refl, sym, ap, ◌∙◌, subst}
 use Rattle.std.specs.List.{AllByRecursion}
 use Rattle.std.proofs.lemmas.List.{append-nil}
-use Rattle.css_semantics.specs.Dialogue.{Action, Enter, Turn, Leave, Load, Store, Out, Calls, Returns, Start, Finish, Barrier, Wait, Fault, End, Call, Item, Tape, Reply, Says, World, Outcome, item, then_do, tape_of}
+use Rattle.css_semantics.specs.Dialogue.{Action, Enter, Turn, Leave, Load, Store, Out, In, Malloc, Calls, Returns, Start, Finish, Barrier, Wait, WaitFault, DimFault, Fault, End, Call, Item, Tape, Reply, Says, World, Outcome, item, then_do, tape_of}
 use Rattle.css_semantics.specs.Worlds.{state_after, world_of, is_of_machine, AreOfMachine, Follows}
 use Rattle.css_semantics.specs.Memory.{Memory, after}
 use Rattle.css_semantics.specs.Units.{Metered, metered, spending}
-use Rattle.css_semantics.specs.Flat.{reply_in}
+use Rattle.css_semantics.specs.Flat.{memory_reply}
 use Rattle.css_vm.specs.declared.code.MarkKind.{MarkKind}
 use Rattle.css_vm.specs.declared.code.MarkKind.TheVariants as marks
 use Rattle.css_vm.specs.declared.machine.Event.TheVariants as events
@@ -23,7 +23,7 @@ passing (Calls call) reply = Says 0
 passing action reply = reply
 
 passed : Metered Memory → World
-passed space tape i = passing i.action (world_of (metered reply_in) (spending after) space tape i)
+passed space tape i = passing i.action (world_of (metered memory_reply) (spending after) space tape i)
 
 passes_machine : (action : Action) (reply : Reply) → IsTrue (is_of_machine action) → passing action reply ≡ reply
 unfolding passing
@@ -33,20 +33,24 @@ passes_machine (Leave base size) reply h = refl
 passes_machine (Load address width) reply h = refl
 passes_machine (Store address bytes) reply h = refl
 passes_machine (Out bytes) reply h = refl
+passes_machine In reply h = refl
+passes_machine (Malloc size) reply h = refl
 passes_machine (Calls call) reply h = absurd (cc)
 passes_machine Returns reply h = refl
 passes_machine Start reply h = refl
 passes_machine Finish reply h = refl
 passes_machine Barrier reply h = refl
 passes_machine (Wait address) reply h = refl
+passes_machine WaitFault reply h = refl
+passes_machine DimFault reply h = refl
 passes_machine (Fault kind) reply h = refl
 passes_machine (End result) reply h = refl
 
-follows : (space : Metered Memory) → Follows (passed space) (metered reply_in) (spending after) [] space
+follows : (space : Metered Memory) → Follows (passed space) (metered memory_reply) (spending after) [] space
 unfolding passed
 follows space = record {
   replies = λ more i of_machine asked.
-      passes_machine i.action _ asked ∙ ap (λ t. metered reply_in (state_after (spending after) space t) i.action) (append-nil more);
+      passes_machine i.action _ asked ∙ ap (λ t. metered memory_reply (state_after (spending after) space t) i.action) (append-nil more);
 }
 
 module _ (code : Code) (plain : HasNoMarks code) (old new : State) (space space' : Metered Memory) where
@@ -64,7 +68,7 @@ module _ (code : Code) (plain : HasNoMarks code) (old new : State) (space space'
   task_marked s f call (At a callers place []) later all = all.0
   task_marked s f call (At a callers place (owed ∷ rest)) later all = all.1.0
 
-  pub no_task : (s : Submitted) → Reaches (metered reply_in) (spending after) code old space (events.Submit s) new space' → ⊥
+  pub no_task : (s : Submitted) → Reaches (metered memory_reply) (spending after) code old space (events.Submit s) new space' → ⊥
   unfolding passed passing
   no_task s reaches =
       let w = passed space in
@@ -72,7 +76,7 @@ module _ (code : Code) (plain : HasNoMarks code) (old new : State) (space space'
       let does = there.3 in
       task_marked s does.1 _ new _ (unmarked w (does.0 + 1) _ (ap tape_of (does.5 0)))
 
-  pub only_asks : (kind : MarkKind) (line : ℕ) → Reaches (metered reply_in) (spending after) code old space (events.Mark kind line) new space' → kind ≡ marks.Started
+  pub only_asks : (kind : MarkKind) (line : ℕ) → Reaches (metered memory_reply) (spending after) code old space (events.Mark kind line) new space' → kind ≡ marks.Started
   unfolding passed passing
   only_asks marks.Started line reaches = refl
   only_asks marks.Start line reaches =

@@ -13,7 +13,8 @@ use Rattle.css_base.specs.declared.ending.Who.TheVariants as whose
 use Rattle.css_base.specs.declared.limits.Limits.{Limits}
 use Rattle.css_base.specs.Labels.{static_label, rule_label, fault_label}
 use Rattle.css_semantics.specs.Dialogue.{Outcome, Goes, Stops, Stopped, Tired, tape_of, output}
-use Rattle.css_semantics.specs.Flat.{no_frames, flat}
+use Rattle.css_semantics.specs.Flat.{flat}
+use Rattle.css_main_side.specs.Playing.{begins}
 use Rattle.css_semantics.specs.Verdict.{Verdict, verdict, judged_in}
 use Rattle.css_lex.specs.Lexing.{longest_text}
 use Rattle.css_lexemes.specs.Lines.{erased}
@@ -78,8 +79,8 @@ ending_of (Stops Tired tape) = None
 -- enough changes nothing.
 pub record Runs (limits : Limits) (p : Program) (out : List ℕ) (ending : Ending) : Type 0 where
   pub fuel : ℕ
-  pub ending_is : ending_of (source (flat limits.memory limits.main_units) fuel p) ≡ Some ending
-  pub out_is : out ≡ output (tape_of (source (flat limits.memory limits.main_units) fuel p))
+  pub ending_is : ending_of (source (flat (begins limits) limits.main_units) fuel p) ≡ Some ending
+  pub out_is : out ≡ output (tape_of (source (flat (begins limits) limits.main_units) fuel p))
 
 -- ---- what each command gives
 
@@ -92,7 +93,7 @@ pub record IsRunAnswer (limits : Limits) (p : Program) (a : Answer) : Type 0 whe
 
 -- The verdict on a program under the rules and with these limits. More fuel than is enough changes nothing.
 abbrev pub HasVerdict : Limits → Program → Verdict → Type 0
-HasVerdict limits p v = (fuel : ℕ) × (verdict (no_frames limits.memory) (source (judged_in limits) fuel p) ≡ Some v)
+HasVerdict limits p v = (fuel : ℕ) × (verdict (begins limits).memory (source (judged_in limits (begins limits)) fuel p) ≡ Some v)
 
 -- The answer of a program's run with its tasks: its verdict's output and ending.
 pub record IsTaskAnswer (limits : Limits) (p : Program) (a : Answer) : Type 0 where

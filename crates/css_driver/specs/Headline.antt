@@ -2,7 +2,8 @@
 use Rattle.std.specs.Prelude.{◌≡◌, ◌≤◌, ◌⊎◌, ℕ, List, map, Some}
 use Rattle.css_base.specs.declared.limits.Limits.{Limits}
 use Rattle.css_semantics.specs.Dialogue.{tape_of}
-use Rattle.css_semantics.specs.Flat.{no_frames, flat}
+use Rattle.css_semantics.specs.Flat.{flat}
+use Rattle.css_main_side.specs.Playing.{begins}
 use Rattle.css_semantics.specs.Verdict.{Verdict, verdict, judged_in}
 use Rattle.css_lexemes.specs.Lines.{erased}
 use Rattle.css_small.specs.Tree.{Program}
@@ -24,15 +25,15 @@ pub record IsErasedRun (limits : Limits) (text : List ℕ) (a : Answer) : Type 0
   pub spells_erased : Spells (erased text) plain
   pub fuel : ℕ
   pub v : Verdict
-  pub has : verdict (no_frames limits.memory) (source (judged_in limits) fuel marked) ≡ Some v
+  pub has : verdict (begins limits).memory (source (judged_in limits (begins limits)) fuel marked) ≡ Some v
   pub out_is : a.out ≡ v.output
   pub report_is : a.report ≡ ending_line v.ending
   pub status_is : a.status ≡ ending_status v.ending
-  pub answers : (units enough : ℕ) → entries (tape_of (source (judged_in limits) fuel marked)) ≤ units → fuel ≤ enough
-      → Answers v.ending v.output (source (flat limits.memory units) enough plain)
-  pub passed : (units enough : ℕ) → entries (tape_of (source (judged_in limits) fuel marked)) ≤ units → fuel ≤ enough
-      → IsPassed (tape_of (source (judged_in limits) fuel marked)) (tape_of (source (flat limits.memory units) enough plain))
-  pub images : v.images ≡ map (erased_image (no_frames limits.memory)) (points (tape_of (source (judged_in limits) fuel marked)))
+  pub answers : (units enough : ℕ) → entries (tape_of (source (judged_in limits (begins limits)) fuel marked)) ≤ units → fuel ≤ enough
+      → Answers v.ending v.output (source (flat (begins limits) units) enough plain)
+  pub passed : (units enough : ℕ) → entries (tape_of (source (judged_in limits (begins limits)) fuel marked)) ≤ units → fuel ≤ enough
+      → IsPassed (tape_of (source (judged_in limits (begins limits)) fuel marked)) (tape_of (source (flat (begins limits) units) enough plain))
+  pub images : v.images ≡ map (erased_image (begins limits).memory) (points (tape_of (source (judged_in limits (begins limits)) fuel marked)))
 
 -- the status of a run that ended
 abbrev pub IsOfRun : ℕ → Type 0

@@ -5,6 +5,7 @@ ghost use Rattle.css_base.specs.declared.ending.Who.TheVariants.{Main};
 ghost use Rattle.css_semantics.specs.declared.TheConstants.{STACK_LIMIT};
 ghost use Rattle.css_semantics.specs.Dialogue.{Outcome, output, tape_of};
 ghost use Rattle.css_semantics.specs.Memory.{first_global, stack_place};
+ghost use Rattle.css_semantics.specs.Flat.{no_globals};
 ghost use Rattle.css_semantics.specs.Units.{with_units};
 ghost use Rattle.css_vm.specs.Code.{Routine, routine, code_of, first_line};
 ghost use Rattle.css_vm.specs.Cells.{int_of};
@@ -37,7 +38,7 @@ pub fn run_main<O: Sink>(
     requires sound { (plans : List (List Spot)) × IsSound (code_of code.now) plans }
     requires no_marks { HasNoMarks (code_of code.now) }
     requires memory { first_global + STACK_LIMIT ≤ memory }
-    ensures { (o : Outcome ℤ) (ending : Ending) → ComesTo memory units (code_of code.now) o → ending_of o ≡ Some ending
+    ensures { (o : Outcome ℤ) (ending : Ending) → ComesTo (no_globals memory) units (code_of code.now) o → ending_of o ≡ Some ending
         → RanAs ending (output (tape_of o)) (change O.written O.faults out.old out.new) result }
 {
     let Ok(mut pending) = Pending::new(alloc) else {

@@ -1,6 +1,7 @@
 -- Expressions and stores are kept.
 use Rattle.std.proofs.Common.{ℕ, ℤ, pos, ◌+◌, List, [], ◌∷◌, refl}
 use Rattle.css_base.specs.declared.limits.Limits.{Limits}
+use Rattle.css_semantics.specs.Flat.{FlatState}
 use Rattle.css_base.specs.declared.int_type.IntType.TheVariants.{Int}
 use Rattle.css_num.specs.Conversion.{representation, converted}
 use Rattle.css_num.specs.Operators.{truth_value, unary_value, binary_value}
@@ -11,21 +12,21 @@ use Rattle.css_small_code.specs.Meaning.{address_of, element_of, is_true, load, 
 use Rattle.css_erasing.proofs.Kept.{Kept, kept_then, kept_goes, kept_if, kept_given}
 use Rattle.css_erasing.proofs.Asked.{w, w', kept_ask}
 
-module _ (limits : Limits) (n base : ℕ) where
+module _ (limits : Limits) (start : FlatState) (n base : ℕ) where
   abbrev judged : World
-  judged = w limits n
+  judged = w limits start n
 
   abbrev erased : World
-  erased = w' limits n
+  erased = w' limits start n
 
   kept_load : (address line : ℕ) → Kept n (load judged base address line) (load erased base address line)
-  kept_load address line = kept_then n (kept_ask limits n (Load address 4) refl line) (λ r. kept_goes n (converted Int (pos r)))
+  kept_load address line = kept_then n (kept_ask limits start n (Load address 4) refl line) (λ r. kept_goes n (converted Int (pos r)))
 
   pub kept_store : (address : ℕ) (v : ℤ) (line : ℕ) → Kept n (store judged base address v line) (store erased base address v line)
-  kept_store address v line = kept_ask limits n (Store address (big_endian_bytes 4 (representation Int v))) refl line
+  kept_store address v line = kept_ask limits start n (Store address (big_endian_bytes 4 (representation Int v))) refl line
 
   pub kept_element_at : {d d' : Tape → Outcome ℤ} → Kept n d d' → (line : ℕ) → Kept n (element_at judged base d line) (element_at erased base d' line)
-  kept_element_at index line = kept_then n (kept_ask limits n (Load (address_of base 0) 4) refl line) (λ p. kept_then n index (λ i. kept_goes n (element_of p i)))
+  kept_element_at index line = kept_then n (kept_ask limits start n (Load (address_of base 0) 4) refl line) (λ p. kept_then n index (λ i. kept_goes n (element_of p i)))
 
   pub kept_value : (e : Expression) (line : ℕ) → Kept n (value_of judged base e line) (value_of erased base e line)
   kept_value (Number value) line = kept_goes n (pos value)
@@ -43,4 +44,4 @@ module _ (limits : Limits) (n base : ℕ) where
 
   pub kept_stores : (k : ℕ) (arguments : List ℕ) (line : ℕ) → Kept n (stores judged base k arguments line) (stores erased base k arguments line)
   kept_stores k [] line = kept_goes n 0
-  kept_stores k (a ∷ arguments) line = kept_then n (kept_ask limits n (Store (address_of base k) (big_endian_bytes 4 a)) refl line) (λ r. kept_stores (k + 1) arguments line)
+  kept_stores k (a ∷ arguments) line = kept_then n (kept_ask limits start n (Store (address_of base k) (big_endian_bytes 4 a)) refl line) (λ r. kept_stores (k + 1) arguments line)

@@ -5,8 +5,7 @@ use Rattle.std.proofs.lemmas.Option.{slice_get-map}
 use Rattle.css_base.specs.declared.limits.Limits.{Limits}
 use Rattle.css_semantics.specs.Dialogue.{Enter, Leave, Calls, Returns, Item, item, Says, Fails, World, Tape, Goes, then_do, replied, ask}
 use Rattle.css_semantics.specs.Worlds.{state_after}
-use Rattle.css_semantics.specs.Memory.{after}
-use Rattle.css_semantics.specs.Flat.{is_innermost, no_frames}
+use Rattle.css_semantics.specs.Flat.{FlatState, is_innermost, flat_after}
 use Rattle.css_semantics.specs.Units.{with_units, spending}
 use Rattle.css_semantics.specs.Tasks.{is_started}
 use Rattle.css_small.specs.Tree.{Function}
@@ -24,22 +23,22 @@ left_with : (b : Bool) (i : Item) (t : Tape) → then_do (replied (if b then Say
 left_with true i t = refl
 left_with false i t = refl
 
-module _ (limits : Limits) (n : ℕ) where
+module _ (limits : Limits) (start : FlatState) (n : ℕ) where
   abbrev judged : World
-  judged = w limits n
+  judged = w limits start n
 
   abbrev erased : World
-  erased = w' limits n
+  erased = w' limits start n
 
   pub kept_left : (frame : ℕ) (exit : Exit) → Kept n (left judged frame exit) (left erased frame exit)
-  kept_left frame exit = kept_ask limits n (Leave exit.base frame) refl exit.line
+  kept_left frame exit = kept_ask limits start n (Leave exit.base frame) refl exit.line
 
   left_by : (frame : ℕ) (exit : Exit) (t : Tape) → then_do (left erased frame exit t) (λ r. Goes 0) ≡ left erased frame exit t
-  left_by frame exit t = left_with (is_innermost (state_after (spending after) (with_units (no_frames limits.memory) n) t).state exit.base frame) (item (Leave exit.base frame) exit.line) t
+  left_by frame exit t = left_with (is_innermost (state_after (spending flat_after) (with_units start n) t).state.memory exit.base frame) (item (Leave exit.base frame) exit.line) t
 
   -- a task's return is left out
   kept_return : (line : ℕ) → Kept n (ask judged Returns line) (Goes 0)
-  kept_return line = kept_from n (ask judged Returns line) (kept_told limits n Returns refl 0 (λ m. refl) line (λ r t. ([], refl)) (kept_goes n 0)) (λ t. then_goes (ask judged Returns line t))
+  kept_return line = kept_from n (ask judged Returns line) (kept_told limits start n Returns refl 0 (λ m. refl) line (λ r t. ([], refl)) (kept_goes n 0)) (λ t. then_goes (ask judged Returns line t))
 
   kept_returns : (frame : ℕ) (exit : Exit) → Kept n (λ t. then_do (left judged frame exit t) (λ r. ask judged Returns exit.line)) (left erased frame exit)
   kept_returns frame exit = kept_as n (left erased frame exit) (kept_then n (kept_left frame exit) (λ r. kept_return exit.line)) (left_by frame exit)
@@ -47,9 +46,9 @@ module _ (limits : Limits) (n : ℕ) where
   module _ (call call' : Calling) (kept_call : AreKept n call call') (fuel : ℕ) where
     pub kept_applied : (f : Function) (arguments : List ℕ) (line : ℕ) → Kept n (applied judged call fuel f arguments line) (applied erased call' fuel (unmarked_function f) arguments line)
     kept_applied f arguments line =
-        kept_then n (kept_ask limits n (Enter (frame_of f)) refl line) (λ base.
-        kept_then n (kept_stores limits n base 0 arguments line) (λ r.
-        kept_then n (kept_meanings limits n call call' kept_call base fuel f.body) (λ flow. kept_goes n (exit_by base f.end flow))))
+        kept_then n (kept_ask limits start n (Enter (frame_of f)) refl line) (λ base.
+        kept_then n (kept_stores limits start n base 0 arguments line) (λ r.
+        kept_then n (kept_meanings limits start n call call' kept_call base fuel f.body) (λ flow. kept_goes n (exit_by base f.end flow))))
 
     kept_plain_call : (f : Function) (argument line : ℕ) → Kept n (plain_call judged call fuel f argument line) (plain_call erased call' fuel (unmarked_function f) argument line)
     kept_plain_call f argument line = kept_then n (kept_applied f (argument ∷ []) line) (kept_left (frame_of f))
@@ -61,7 +60,7 @@ module _ (limits : Limits) (n : ℕ) where
     kept_task_call : (f : Function) (number argument base line : ℕ) →
         Kept n (λ t. then_do (ask judged (Calls (task_call_of number argument base)) line t) (task_body judged call fuel f argument line)) (plain_call erased call' fuel (unmarked_function f) argument line)
     kept_task_call f number argument base line =
-        kept_told limits n (Calls (task_call_of number argument base)) refl 1 (λ m. refl) line
+        kept_told limits start n (Calls (task_call_of number argument base)) refl 1 (λ m. refl) line
         (grows_task_body judged call (λ f argument base line. (kept_call f argument base line).grows) fuel f argument line) (kept_body f argument line)
 
     kept_called : (number : ℕ) (f : Option Function) (argument base line : ℕ) → Kept n (called judged call fuel number f argument base line) (called erased call' fuel number (option_map unmarked_function f) argument base line)

@@ -1,6 +1,7 @@
 -- Programs are kept.
 use Rattle.std.proofs.Common.{ℕ, ◌≤◌, if◌then◌else◌, [], map, refl, sym, subst}
 use Rattle.css_base.specs.declared.limits.Limits.{Limits}
+use Rattle.css_semantics.specs.Flat.{FlatState}
 use Rattle.css_semantics.specs.Dialogue.{World, Finish, End, Goes, tape_of, then_do, ask}
 use Rattle.css_semantics.specs.Tasks.{is_started}
 use Rattle.css_small.specs.Tree.{Program}
@@ -15,15 +16,15 @@ use Rattle.css_semantics.proofs.Tapes.{then_goes}
 use Rattle.css_erasing.proofs.Asked.{w, w', kept_ask, kept_told}
 use Rattle.css_erasing.proofs.Functions.{kept_left, kept_applied, kept_calls}
 
-module _ (limits : Limits) (n : ℕ) where
+module _ (limits : Limits) (start : FlatState) (n : ℕ) where
   abbrev judged : World
-  judged = w limits n
+  judged = w limits start n
 
   abbrev erased : World
-  erased = w' limits n
+  erased = w' limits start n
 
   kept_finish : (line : ℕ) → Kept n (ask judged Finish line) (Goes 0)
-  kept_finish line = kept_from n (ask judged Finish line) (kept_told limits n Finish refl 0 (λ m. refl) line (λ r t. ([], refl)) (kept_goes n 0)) (λ t. then_goes (ask judged Finish line t))
+  kept_finish line = kept_from n (ask judged Finish line) (kept_told limits start n Finish refl 0 (λ m. refl) line (λ r t. ([], refl)) (kept_goes n 0)) (λ t. then_goes (ask judged Finish line t))
 
   -- where tasks are made, main's end acts as finish, which is left out
   kept_end : (line : ℕ) → Kept n (finished judged line) (Goes 0)
@@ -39,13 +40,13 @@ module _ (limits : Limits) (n : ℕ) where
 
   kept_main_left : (frame : ℕ) (exit : Exit) → Kept n (main_left judged frame exit) (main_left erased frame exit)
   kept_main_left frame exit =
-      kept_then n (kept_finished exit.line) (λ r. kept_then n (kept_left limits n frame exit) (λ r. kept_then n (kept_ask limits n (End exit.value) refl exit.line) (λ r. kept_goes n exit.value)))
+      kept_then n (kept_finished exit.line) (λ r. kept_then n (kept_left limits start n frame exit) (λ r. kept_then n (kept_ask limits start n (End exit.value) refl exit.line) (λ r. kept_goes n exit.value)))
 
   kept_program : (fuel : ℕ) (p : Program) →
       Kept n (λ t. then_do (applied judged (calls judged p.functions fuel) fuel p.main [] p.main.line t) (main_left judged (frame_of p.main)))
       (λ t. then_do (applied erased (calls erased (map unmarked_function p.functions) fuel) fuel (unmarked_function p.main) [] p.main.line t) (main_left erased (frame_of p.main)))
   kept_program fuel p =
-      kept_then n (kept_applied limits n (calls judged p.functions fuel) (calls erased (map unmarked_function p.functions) fuel) (kept_calls limits n p.functions fuel) fuel p.main [] p.main.line) (kept_main_left (frame_of p.main))
+      kept_then n (kept_applied limits start n (calls judged p.functions fuel) (calls erased (map unmarked_function p.functions) fuel) (kept_calls limits start n p.functions fuel) fuel p.main [] p.main.line) (kept_main_left (frame_of p.main))
 
   pub erased_source : (fuel : ℕ) (p : Program) → entries (tape_of (source judged fuel p)) ≤ n → IsErased (source judged fuel p) (source erased fuel (unmarked p))
   erased_source fuel p = (kept_program fuel p).erases []

@@ -6,7 +6,7 @@ use Rattle.css_base.specs.declared.limits.Limits.{Limits}
 use Rattle.css_base.specs.declared.ending.Stop.TheVariants as stops
 use Rattle.css_semantics.specs.Dialogue.{Tape, Outcome, Goes, Stops, Stopped, Tired, tape_of, output}
 use Rattle.css_semantics.specs.Memory.{Memory}
-use Rattle.css_semantics.specs.Flat.{no_frames, flat}
+use Rattle.css_semantics.specs.Flat.{FlatState, flat}
 use Rattle.css_semantics.specs.Verdict.{Verdict, verdict, judged_in}
 use Rattle.css_semantics.proofs.Tapes.{output-append}
 use Rattle.css_small.specs.Tree.{Program}
@@ -43,13 +43,13 @@ answers start (Stops (Stopped (stops.Rule rule) line) tape) q more v is extends 
     subst (λ (x : Verdict). Answers x.ending x.output more) (same_Some _ v e) (front tape q more is extends)
 answers start (Stops Tired tape) q more v is extends e = cc
 
-pub erased_verdict : (limits : Limits) (fuel enough n : ℕ) (p : Program) (v : Verdict) → verdict (no_frames limits.memory) (source (judged_in limits) fuel p) ≡ Some v → entries (tape_of (source (judged_in limits) fuel p)) ≤ n → fuel ≤ enough →
-    Answers v.ending v.output (source (flat limits.memory n) enough (unmarked p))
-erased_verdict limits fuel enough n p v e few le =
-    let o = source (judged_in limits) fuel p in
-    let q = source (flat limits.memory n) fuel (unmarked p) in
-    let more = source (flat limits.memory n) enough (unmarked p) in
-    answers (no_frames limits.memory) o q more v (erased_source limits n fuel p few) (extends_source (flat limits.memory n) fuel enough (unmarked p) le) e
+pub erased_verdict : (limits : Limits) (start : FlatState) (fuel enough n : ℕ) (p : Program) (v : Verdict) → verdict start.memory (source (judged_in limits start) fuel p) ≡ Some v → entries (tape_of (source (judged_in limits start) fuel p)) ≤ n → fuel ≤ enough →
+    Answers v.ending v.output (source (flat start n) enough (unmarked p))
+erased_verdict limits start fuel enough n p v e few le =
+    let o = source (judged_in limits start) fuel p in
+    let q = source (flat start n) fuel (unmarked p) in
+    let more = source (flat start n) enough (unmarked p) in
+    answers start.memory o q more v (erased_source limits start n fuel p few) (extends_source (flat start n) fuel enough (unmarked p) le) e
 
 -- what isn't tired is what it extends to
 settled : {A : Type 0} (o more : Outcome A) → Extends o more → ((tape : Tape) → o ≡ Stops Tired tape → ⊥) → more ≡ o
@@ -57,10 +57,10 @@ settled (Goes value tape) more h ends = h
 settled (Stops (Stopped stop line) tape) more h ends = h
 settled (Stops Tired tape) more h ends = absurd (ends tape refl)
 
-pub erased_verdict_by_any : (limits : Limits) (fuel other n : ℕ) (p : Program) (v : Verdict) → verdict (no_frames limits.memory) (source (judged_in limits) fuel p) ≡ Some v → entries (tape_of (source (judged_in limits) fuel p)) ≤ n →
-    ((tape : Tape) → source (flat limits.memory n) other (unmarked p) ≡ Stops Tired tape → ⊥) → Answers v.ending v.output (source (flat limits.memory n) other (unmarked p))
-erased_verdict_by_any limits fuel other n p v e few ends =
-    let w = flat limits.memory n in
+pub erased_verdict_by_any : (limits : Limits) (start : FlatState) (fuel other n : ℕ) (p : Program) (v : Verdict) → verdict start.memory (source (judged_in limits start) fuel p) ≡ Some v → entries (tape_of (source (judged_in limits start) fuel p)) ≤ n →
+    ((tape : Tape) → source (flat start n) other (unmarked p) ≡ Stops Tired tape → ⊥) → Answers v.ending v.output (source (flat start n) other (unmarked p))
+erased_verdict_by_any limits start fuel other n p v e few ends =
+    let w = flat start n in
     ⊎_elim
-    (λ lt. subst (λ q. Answers v.ending v.output q) (settled (source w other (unmarked p)) (source w fuel (unmarked p)) (extends_source w other fuel (unmarked p) (omega (arith, lt))) ends) (erased_verdict limits fuel fuel n p v e few (omega arith)))
-    (λ le. erased_verdict limits fuel other n p v e few le) (cases_lt other fuel)
+    (λ lt. subst (λ q. Answers v.ending v.output q) (settled (source w other (unmarked p)) (source w fuel (unmarked p)) (extends_source w other fuel (unmarked p) (omega (arith, lt))) ends) (erased_verdict limits start fuel fuel n p v e few (omega arith)))
+    (λ le. erased_verdict limits start fuel other n p v e few le) (cases_lt other fuel)

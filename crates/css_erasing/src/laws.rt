@@ -4,7 +4,7 @@ ghost use Rattle.css_base.specs.declared.limits.Limits.{Limits};
 ghost use Rattle.css_lexemes.specs.Lines.{erased};
 ghost use Rattle.css_semantics.specs.Dialogue.{Tape, Stops, Tired, tape_of, output};
 ghost use Rattle.css_semantics.specs.Memory.{Memory, memory_after};
-ghost use Rattle.css_semantics.specs.Flat.{no_frames, flat};
+ghost use Rattle.css_semantics.specs.Flat.{FlatState, flat};
 ghost use Rattle.css_semantics.specs.Verdict.{Verdict, verdict, judged_in};
 ghost use Rattle.css_small.specs.Tree.{Program};
 ghost use Rattle.css_small.specs.Numbers.{HasNumbers};
@@ -23,25 +23,25 @@ use css_unmarking::erased_texts_are_accepted;
 /// A program's dialogue under the rules is, up to the first fault or rule, that of the program without its directives in a flat memory
 /// with units enough, but for what it says of tasks.
 pub fn erasing_keeps_the_dialogue()
-    ensures { (limits : Limits) (fuel n : ℕ) (p : Program) → entries (tape_of (source (judged_in limits) fuel p)) ≤ n → IsErased (source (judged_in limits) fuel p) (source (flat limits.memory n) fuel (unmarked p)) }
+    ensures { (limits : Limits) (start : FlatState) (fuel n : ℕ) (p : Program) → entries (tape_of (source (judged_in limits start) fuel p)) ≤ n → IsErased (source (judged_in limits start) fuel p) (source (flat start n) fuel (unmarked p)) }
 {}
 
 /// The verdict's output and ending are those of the program without its directives, up to the first fault or rule. Any fuel that gives
 /// the verdict is enough for that program too, and so is any that ends it.
 pub fn verdict_is_the_erased_programs()
-    ensures by_as_much { (limits : Limits) (fuel enough n : ℕ) (p : Program) (v : Verdict) → verdict (no_frames limits.memory) (source (judged_in limits) fuel p) ≡ Some v → entries (tape_of (source (judged_in limits) fuel p)) ≤ n → fuel ≤ enough → Answers v.ending v.output (source (flat limits.memory n) enough (unmarked p)) }
-    ensures by_any { (limits : Limits) (fuel other n : ℕ) (p : Program) (v : Verdict) → verdict (no_frames limits.memory) (source (judged_in limits) fuel p) ≡ Some v → entries (tape_of (source (judged_in limits) fuel p)) ≤ n → ((tape : Tape) → source (flat limits.memory n) other (unmarked p) ≡ Stops Tired tape → ⊥) → Answers v.ending v.output (source (flat limits.memory n) other (unmarked p)) }
+    ensures by_as_much { (limits : Limits) (start : FlatState) (fuel enough n : ℕ) (p : Program) (v : Verdict) → verdict start.memory (source (judged_in limits start) fuel p) ≡ Some v → entries (tape_of (source (judged_in limits start) fuel p)) ≤ n → fuel ≤ enough → Answers v.ending v.output (source (flat start n) enough (unmarked p)) }
+    ensures by_any { (limits : Limits) (start : FlatState) (fuel other n : ℕ) (p : Program) (v : Verdict) → verdict start.memory (source (judged_in limits start) fuel p) ≡ Some v → entries (tape_of (source (judged_in limits start) fuel p)) ≤ n → ((tape : Tape) → source (flat start n) other (unmarked p) ≡ Stops Tired tape → ⊥) → Answers v.ending v.output (source (flat start n) other (unmarked p)) }
 {}
 
 /// Each point of the program's dialogue is one of the erased program's, with the same memory and the same output behind it. The images
 /// of a verdict are taken at such points, in order: the k-th is of the erased program's memory at the k-th, of all its live bytes or of
 /// the window that is pending there.
 pub fn points_are_the_erased_programs()
-    ensures passed { (limits : Limits) (fuel enough n : ℕ) (p : Program) (newer tape : Tape) → tape_of (source (judged_in limits) fuel p) ≡ newer ++ tape → entries (tape_of (source (judged_in limits) fuel p)) ≤ n → fuel ≤ enough → IsPassed tape (tape_of (source (flat limits.memory n) enough (unmarked p))) }
+    ensures passed { (limits : Limits) (start : FlatState) (fuel enough n : ℕ) (p : Program) (newer tape : Tape) → tape_of (source (judged_in limits start) fuel p) ≡ newer ++ tape → entries (tape_of (source (judged_in limits start) fuel p)) ≤ n → fuel ≤ enough → IsPassed tape (tape_of (source (flat start n) enough (unmarked p))) }
     ensures memory { (start : Memory) (tape : Tape) → memory_after start (plain tape) ≡ memory_after start tape }
     ensures written { (tape : Tape) → output (plain tape) ≡ output tape }
-    ensures images { (limits : Limits) (fuel : ℕ) (p : Program) (v : Verdict) → verdict (no_frames limits.memory) (source (judged_in limits) fuel p) ≡ Some v → v.images ≡ map (erased_image (no_frames limits.memory)) (points (tape_of (source (judged_in limits) fuel p))) }
-    ensures points { (limits : Limits) (fuel enough n : ℕ) (p : Program) → entries (tape_of (source (judged_in limits) fuel p)) ≤ n → fuel ≤ enough → All (λ (point : Point). IsPassed point.before (tape_of (source (flat limits.memory n) enough (unmarked p)))) (points (tape_of (source (judged_in limits) fuel p))) }
+    ensures images { (limits : Limits) (start : FlatState) (fuel : ℕ) (p : Program) (v : Verdict) → verdict start.memory (source (judged_in limits start) fuel p) ≡ Some v → v.images ≡ map (erased_image start.memory) (points (tape_of (source (judged_in limits start) fuel p))) }
+    ensures points { (limits : Limits) (start : FlatState) (fuel enough n : ℕ) (p : Program) → entries (tape_of (source (judged_in limits start) fuel p)) ≤ n → fuel ≤ enough → All (λ (point : Point). IsPassed point.before (tape_of (source (flat start n) enough (unmarked p)))) (points (tape_of (source (judged_in limits start) fuel p))) }
 {}
 
 /// No directive stands in the program without its directives, and a program without directives is that already. Numbers stay

@@ -3,7 +3,7 @@ use Rattle.std.proofs.Common.{◌≡◌, ℕ, zero, suc, ◌+◌, ◌-◌, ◌%�
 use Rattle.std.specs.List.{Contains}
 use Rattle.std.proofs.lemmas.Option.{slice_get_within, get_or_from_slice_get}
 use Rattle.std.proofs.lemmas.List.Elements.{Contains-get_or}
-use Rattle.css_semantics.specs.Dialogue.{Action, Enter, Turn, Leave, Load, Store, Returns, Out, Calls, Start, Finish, Barrier, Wait, Fault, End, Item, Tape, Reply, Says, Fails, Refuses, World, Outcome, Goes, Stops, item, then_do, replied, ask}
+use Rattle.css_semantics.specs.Dialogue.{Action, Enter, Turn, Leave, Load, Store, Returns, Out, In, Malloc, Calls, Start, Finish, Barrier, Wait, WaitFault, DimFault, Fault, End, Item, Tape, Reply, Says, Fails, Refuses, World, Outcome, Goes, Stops, item, then_do, replied, ask}
 use Rattle.css_semantics.specs.Worlds.{state_after, is_of_machine, is_fault, AreOfMachine}
 use Rattle.css_semantics.specs.Memory.{big_endian_bytes}
 use Rattle.css_semantics.specs.Tasks.{frames_after}
@@ -39,12 +39,16 @@ asks_machine top frames (Leave base size) asks = refl
 asks_machine top frames (Load address width) asks = refl
 asks_machine top frames (Store address bytes) asks = refl
 asks_machine top frames (Out bytes) asks = absurd asks
+asks_machine top frames In asks = absurd asks
+asks_machine top frames (Malloc size) asks = absurd asks
 asks_machine top frames (Calls call) asks = absurd asks
 asks_machine top frames Returns asks = absurd asks
 asks_machine top frames Start asks = absurd asks
 asks_machine top frames Finish asks = absurd asks
 asks_machine top frames Barrier asks = absurd asks
 asks_machine top frames (Wait address) asks = absurd asks
+asks_machine top frames WaitFault asks = absurd asks
+asks_machine top frames DimFault asks = absurd asks
 asks_machine top frames (Fault kind) asks = absurd asks
 asks_machine top frames (End result) asks = absurd asks
 

@@ -1,7 +1,7 @@
 -- What a task's body asks changes nothing that main has.
 use Rattle.std.proofs.Common.{◌≡◌, ℕ, ◌+◌, ◌-◌, false, ◌||◌, IsTrue, List, [], ◌∷◌, ◌++◌, Option, Some, None, is_none, option_map, refl, ap, ◌∙◌, if◌then◌else◌}
 use Rattle.std.proofs.lemmas.List.{append-nil}
-use Rattle.css_semantics.specs.Dialogue.{Action, Enter, Turn, Leave, Load, Store, Out, Calls, Returns, Start, Finish, Barrier, Wait, Fault, End, Tape, item, output}
+use Rattle.css_semantics.specs.Dialogue.{Action, Enter, Turn, Leave, Load, Store, Out, In, Malloc, Calls, Returns, Start, Finish, Barrier, Wait, WaitFault, DimFault, Fault, End, Tape, item, output}
 use Rattle.css_semantics.specs.Worlds.{is_of_machine, is_fault, AreOfMachine}
 use Rattle.css_semantics.specs.Memory.{Memory}
 use Rattle.css_semantics.specs.Tasks.{Body, body, body_after, unit_of, main_units, called, called_after}
@@ -26,12 +26,16 @@ are_quiet (Load address width) h = record { pends = λ objects. refl; counts = �
 are_quiet (Store address bytes) h = record { pends = λ objects. refl; counts = λ n. refl; calls_none = λ line. refl; shows_none = λ start tape line. refl; goes_on = λ b. refl }
 are_quiet (Fault kind) h = record { pends = λ objects. refl; counts = λ n. refl; calls_none = λ line. refl; shows_none = λ start tape line. refl; goes_on = λ b. refl }
 are_quiet (Out bytes) h = absurd (cc)
+are_quiet In h = absurd (cc)
+are_quiet (Malloc size) h = absurd (cc)
 are_quiet (Calls call) h = absurd (cc)
 are_quiet Returns h = absurd (cc)
 are_quiet Start h = absurd (cc)
 are_quiet Finish h = absurd (cc)
 are_quiet Barrier h = absurd (cc)
 are_quiet (Wait address) h = absurd (cc)
+are_quiet WaitFault h = absurd (cc)
+are_quiet DimFault h = absurd (cc)
 are_quiet (End result) h = absurd (cc)
 
 still_some : (o : Option Body) (action : Action) → IsQuiet action → is_none o ≡ false → is_none (body_after o action) ≡ false

@@ -1,50 +1,14 @@
--- How things stand at a task's call that breaks no rule: main's stack, the windows, and what the task is given.
-use Rattle.std.proofs.Common.{◌≡◌, ℕ, Bool, true, false, not, ◌||◌, List, [], ◌∷◌, length, map, None, refl, sym, ap, ◌∙◌, if◌then◌else◌}
+-- What a task's call that breaks no rule is given is live.
+use Rattle.std.proofs.Common.{◌≡◌, ℕ, Bool, true, false, not, ◌||◌, List, [], ◌∷◌, map, None, refl, sym, ap, ◌∙◌}
 use Rattle.std.specs.List.{list_any}
 use Rattle.css_base.specs.declared.limits.Limits.{Limits}
-use Rattle.css_semantics.specs.Dialogue.{Action, Enter, Leave, Store, Calls, Call, Tape, Argument}
-use Rattle.css_semantics.specs.Memory.{Memory, first_global, heap_start, is_live_byte, is_live, overlaid, stored, after, memory_after}
-use Rattle.css_semantics.specs.Flat.{erased_stack, no_frames}
+use Rattle.css_semantics.specs.Dialogue.{Calls, Call, Tape, Argument}
+use Rattle.css_semantics.specs.Memory.{Memory, is_live_byte, memory_after}
 use Rattle.css_semantics.specs.Tasks.{use_of, window, body}
 use Rattle.css_semantics.specs.Rules.{all_of_window, checks_of_main, hit}
 use Rattle.css_semantics.proofs.Checks.{are_kept}
 use Rattle.css_in_place.proofs.Hits.{hit_in}
-use Rattle.css_in_place.proofs.Given.{IsWindowed, windows_all, flat_memory}
-
--- ---- the shape of the flat memory
-
--- there are neither globals nor a heap
-pub record IsStackAlone (size : ℕ) (m : Memory) : Type 0 where
-  pub globals : m.globals ≡ []
-  pub heap : m.heap ≡ []
-  pub end : m.end ≡ size
-  pub limit : m.limit ≡ erased_stack
-
-stored_shape : (size address : ℕ) (bytes : List ℕ) (m : Memory) (b : Bool) → IsStackAlone size m → IsStackAlone size (if b then stored m address bytes else m)
-stored_shape size address bytes m true shape = record {
-  globals = ap (λ globals. overlaid first_global globals address bytes) shape.globals;
-  heap = ap (λ heap. overlaid (heap_start m) heap address bytes) shape.heap;
-  end = shape.end;
-  limit = shape.limit;
-}
-stored_shape size address bytes m false shape = shape
-
-shape_after : (size : ℕ) (m : Memory) (action : Action) → IsStackAlone size m → IsStackAlone size (after m action)
-shape_after size m (Enter n) shape = record { globals = shape.globals; heap = shape.heap; end = shape.end; limit = shape.limit }
-shape_after size m (Leave base n) shape = record { globals = shape.globals; heap = shape.heap; end = shape.end; limit = shape.limit }
-shape_after size m (Store address bytes) shape = stored_shape size address bytes m (is_live m address (length bytes)) shape
-shape_after size m _ shape = shape
-
-pub shape_of : (size : ℕ) (tape : Tape) → IsStackAlone size (memory_after (no_frames size) tape)
-shape_of size [] = record { globals = refl; heap = refl; end = refl; limit = refl }
-shape_of size (i ∷ tape) = shape_after size (memory_after (no_frames size) tape) i.action (shape_of size tape)
-
-pub stack_alone : (size : ℕ) (m : Memory) → IsStackAlone size m → m ≡ flat_memory size [] m.stack m.calls
-stack_alone size m shape =
-    ap (λ x. let f : Memory = record { globals = x; heap = m.heap; stack = m.stack; end = m.end; calls = m.calls; limit = m.limit } in f) shape.globals
-    ∙ ap (λ x. let f : Memory = record { globals = []; heap = x; stack = m.stack; end = m.end; calls = m.calls; limit = m.limit } in f) shape.heap
-    ∙ ap (λ x. let f : Memory = record { globals = []; heap = []; stack = m.stack; end = x; calls = m.calls; limit = m.limit } in f) shape.end
-    ∙ ap (λ x. let f : Memory = record { globals = []; heap = []; stack = m.stack; end = size; calls = m.calls; limit = x } in f) shape.limit
+use Rattle.css_in_place.proofs.Given.{IsWindowed, windows_all}
 
 -- ---- the windows
 

@@ -7,7 +7,7 @@ use Rattle.std.proofs.lemmas.List.Elements.{All-nil, All-cons, All-head, All-tai
 use Rattle.css_base.specs.declared.limits.Limits.{Limits}
 use Rattle.css_semantics.specs.Dialogue.{Argument, Call, Calls, Tape}
 use Rattle.css_semantics.specs.Memory.{is_between, memory_after}
-use Rattle.css_semantics.specs.Flat.{no_frames}
+use Rattle.css_semantics.specs.Flat.{FlatState}
 use Rattle.css_semantics.specs.Tasks.{Window, Use, plain, window, use_of, writes, has_byte, is_same_window}
 use Rattle.css_semantics.specs.Pending.{Object, pending}
 use Rattle.css_semantics.specs.Rules.{overlap, overlaps_partly, has_alias, checks_of_main}
@@ -21,7 +21,8 @@ use Rattle.css_vm.specs.Soundness.{AreParts}
 use Rattle.css_in_place.proofs.CallWindows.{given_by_call}
 use Rattle.css_in_place.proofs.Hits.{hit_in}
 use Rattle.css_in_place.proofs.Given.{IsWindowed, is_windowed, or_left, or_right}
-use Rattle.css_in_place.proofs.AtCall.{windowed, above}
+use Rattle.css_in_place.proofs.AtCall.{called, room_below}
+use Rattle.css_in_place.proofs.Fronts.{clear_below}
 
 same_window : (v w : Window) → is_same_window v w ≡ true → v ≡ w
 same_window v w is =
@@ -62,37 +63,40 @@ whole_by objects arguments some none =
     none_of (λ b. overlap (window a) (window b)) arguments (or_parts (list_any (λ o. overlap (window a) o.window) objects) (list_any (λ b. overlap (window a) (window b)) arguments) fine).1)
     some (none_of (overlaps_partly objects arguments) some none)
 
--- windows from a place on, and a stack below it
-clear_one : (place : ℕ) (u : Use) → 16384 ≤ place → ((a : ℕ) → has_byte u.window a ≡ true → place ≤ a) → IsClearOfStack place u
-clear_one place u room over = ap not (window_by (λ a. not (has_byte (plain (place - 16384) 16384) a)) u.window (λ a has. below a (over a has)))
+-- windows none of whose bytes is one of a stack that ends at a place
+clear_one : (place : ℕ) (u : Use) → ((a : ℕ) → has_byte u.window a ≡ true → is_between (place - 16384) place a ≡ false) → 16384 ≤ place → IsClearOfStack place u
+clear_one place u out room = ap not (window_by (λ a. not (has_byte (plain (place - 16384) 16384) a)) u.window (λ a has. not_in a (out a has)))
   where
-    below : (a : ℕ) → place ≤ a → not (has_byte (plain (place - 16384) 16384) a) ≡ true
-    below a from =
-        let out : is_between (place - 16384) (place - 16384 + 16384) a ≡ false = grind (arith, nat_tests) in
-        rw out refl
+    not_in : (a : ℕ) → is_between (place - 16384) place a ≡ false → not (has_byte (plain (place - 16384) 16384) a) ≡ true
+    not_in a is =
+        let whole : place - 16384 + 16384 ≡ place = omega (arith, room) in
+        rw (whole, is) refl
 
-clear_all : (place : ℕ) (uses : List Use) → 16384 ≤ place → ((a : ℕ) → IsWindowed uses a → place ≤ a) → All (IsClearOfStack place) uses
-clear_all place [] room over = All-nil (IsClearOfStack place)
-clear_all place (u ∷ uses) room over =
-    All-cons (IsClearOfStack place) u uses (clear_one place u room (λ a has. over a (or_left (has_byte u.window a) (is_windowed uses a) has)))
-    (clear_all place uses room (λ a held. over a (or_right (has_byte u.window a) (is_windowed uses a) held)))
+clear_all : (place : ℕ) (uses : List Use) → 16384 ≤ place → ((a : ℕ) → IsWindowed uses a → is_between (place - 16384) place a ≡ false) → All (IsClearOfStack place) uses
+clear_all place [] room out = All-nil (IsClearOfStack place)
+clear_all place (u ∷ uses) room out =
+    All-cons (IsClearOfStack place) u uses (clear_one place u (λ a has. out a (or_left (has_byte u.window a) (is_windowed uses a) has)) room)
+    (clear_all place uses room (λ a held. out a (or_right (has_byte u.window a) (is_windowed uses a) held)))
 
-module _ (code : Code) (limits : Limits) (tape : Tape) (k : ℕ) (arguments : List ℕ) (line : ℕ) (uses : List Use) (place : ℕ) (at : IsAtCall code limits tape k arguments line uses place) where
+module _ (code : Code) (limits : Limits) (start : FlatState) (tape : Tape) (k : ℕ) (arguments : List ℕ) (line : ℕ) (uses : List Use) (place : ℕ) (at : IsAtCall code limits start tape k arguments line uses place) where
   abbrev call : Call
   call = call_of k at.routine at.shape arguments at.dimensions place
 
-  kept : AreKept (checks_of_main (memory_after (no_frames limits.memory) at.before) limits at.before (Calls call))
-  kept = are_kept (checks_of_main (memory_after (no_frames limits.memory) at.before) limits at.before (Calls call))
-      (sym (ap (hit_in (memory_after (no_frames limits.memory) at.before) limits at.before (Calls call)) at.by_main) ∙ at.allowed)
+  kept : AreKept (checks_of_main (memory_after start.memory at.before) limits at.before (Calls call))
+  kept = are_kept (checks_of_main (memory_after start.memory at.before) limits at.before (Calls call))
+      (sym (ap (hit_in (memory_after start.memory at.before) limits at.before (Calls call)) at.by_main) ∙ at.allowed)
 
   pub call_agrees : AllAgree uses
   call_agrees = subst AllAgree (sym at.uses_are) (agree_all call.arguments (whole_by (pending at.before) call.arguments call.arguments kept.1.1.1.1.1.0) kept.1.1.1.1.1.1.0)
 
   pub has_room : 16384 ≤ place
-  has_room = omega (arith, above code limits tape k arguments line uses place at, at.within.0, at.in_range.memory.0)
+  has_room = omega (arith, room_below code limits start tape k arguments line uses place at)
 
   pub call_is_clear : All (IsClearOfStack place) uses
-  call_is_clear = clear_all place uses has_room (λ a held. (windowed code limits tape k arguments line uses place at a held).0)
+  call_is_clear =
+      let here = called code limits start tape k arguments line uses place at in
+      clear_all place uses has_room (λ a held.
+      clear_below (memory_after start.memory tape) place here.stack (room_below code limits start tape k arguments line uses place at) 16384 (omega arith) a (here.live a held))
 
   pub call_is_given : AreParts code at.shape.arguments at.routine.parameters
       → AreGiven at.shape.arguments at.routine.parameters call.scalars (map window call.arguments)

@@ -1,10 +1,9 @@
 -- What a task is given lies in the flat memory with the bytes of its own, while its body runs in place.
-use Rattle.std.proofs.Common.{◌≡◌, ◌⊎◌, inl, inr, ℕ, zero, suc, ◌+◌, ◌-◌, ◌<◌, ◌≤◌, Bool, true, false, not, ◌&&◌, ◌||◌, nat_le, nat_lt, List, [], ◌∷◌, ◌++◌, length, slice_index, refl, ap, ap₂, ◌∙◌, arith}
+use Rattle.std.proofs.Common.{◌≡◌, ◌⊎◌, inl, inr, ℕ, zero, suc, ◌+◌, ◌-◌, ◌<◌, ◌≤◌, Bool, true, false, not, ◌&&◌, ◌||◌, nat_le, nat_lt, List, [], ◌∷◌, length, slice_index, refl, sym, ap, ap₂, ◌∙◌, arith, if◌then◌else◌}
 use Rattle.std.specs.List.{list_any}
 use Rattle.std.proofs.lemmas.Bool.{and_parts, and_from, or_parts, leb-true, le-leb, lt-ltb, not-false, not-true}
 use Rattle.std.proofs.lemmas.Bool.Decides.{nat_tests}
-use Rattle.std.proofs.lemmas.List.{length-append, get_or_append_left, get_or-append_right}
-use Rattle.css_semantics.specs.Memory.{all_from, Memory, is_between, is_live_byte, byte_at, is_live, bytes_at}
+use Rattle.css_semantics.specs.Memory.{all_from, Memory, heap_top, stack_place, is_between, is_live_byte, byte_at, is_live, bytes_at}
 use Rattle.css_semantics.specs.Flat.{erased_stack}
 use Rattle.css_semantics.specs.Tasks.{Use, Body, plain, writes, rows_have, has_byte}
 use Rattle.css_semantics.specs.Pending.{some_from}
@@ -13,6 +12,8 @@ use Rattle.css_semantics.specs.Rules.{all_of_window, is_unwritten, is_in_row, is
 use Rattle.css_semantics.specs.Alone.{TaskMemory, task_place, task_byte, task_bytes, byte_of_regions}
 use Rattle.css_semantics.specs.TaskSpaces.{total}
 use Rattle.css_in_place.proofs.TaskBytes.{total_more, is_in_regions}
+use Rattle.css_in_place.proofs.Shapes.{SameShape, live_same, top_same}
+use Rattle.css_in_place.proofs.Fronts.{in_front, front_lowest, live_around, byte_around, clear_around, live_front, byte_front}
 
 -- a window of these has the byte
 abbrev pub is_windowed : List Use → ℕ → Bool
@@ -20,10 +21,6 @@ is_windowed uses a = list_any (λ u. has_byte u.window a) uses
 
 abbrev pub IsWindowed : List Use → ℕ → Type 0
 IsWindowed uses a = is_windowed uses a ≡ true
-
--- a memory without globals and heap: the bytes of a task's stack and those behind it, with so many calls open
-abbrev pub flat_memory : (end : ℕ) (stack outer : List ℕ) (calls : ℕ) → Memory
-flat_memory end stack outer calls = record { globals = []; heap = []; stack = stack ++ outer; end = end; calls = calls; limit = erased_stack }
 
 -- a window of these that is written has the byte
 abbrev pub is_written : List Use → ℕ → Bool
@@ -100,18 +97,6 @@ module _ (address size a : ℕ) (above : address ≤ a) (below : a < address + s
 pub inside_is_given : (b : Body) (address size : ℕ) → is_outside b address size ≡ false → (a : ℕ) → address ≤ a → a < address + size → IsGiven b a
 inside_is_given b address size inside a above below = given_by address size a above below b inside
 
--- ---- the memory
-
-no_byte_between : (from address : ℕ) → is_between from from address ≡ false
-no_byte_between from address = grind (arith, nat_tests)
-
-module _ (end : ℕ) (stack outer : List ℕ) (calls : ℕ) where
-  pub flat_live : (a : ℕ) → is_live_byte (flat_memory end stack outer calls) a ≡ is_between (end - length (stack ++ outer)) end a
-  flat_live a = rw (no_byte_between 4096 a) refl
-
-  pub flat_byte : (a : ℕ) → byte_at (flat_memory end stack outer calls) a ≡ slice_index (stack ++ outer) (a - (end - length (stack ++ outer)))
-  flat_byte a = rw (no_byte_between 4096 a) refl
-
 -- ---- what holds of bytes
 
 -- what holds of all bytes of each window
@@ -150,54 +135,80 @@ written_is_windowed (u ∷ uses) a held =
     (λ here. or_left (has_byte u.window a) (is_windowed uses a) (and_parts (writes u.direction) (has_byte u.window a) here).1)
     (λ later. or_right (has_byte u.window a) (is_windowed uses a) (written_is_windowed uses a later))
 
--- The flat memory while a task's body runs: the task's stack is its front, and each byte of a window is the task's own, unless it is only
--- written and isn't written yet; the bytes behind the place that the task may not write are those of the call.
-pub record InStep (b : Body) (end outer_calls : ℕ) (at_call : List ℕ) (m : Memory) (tm : TaskMemory) : Type 0 where
-  pub outer : List ℕ
-  pub is : m ≡ flat_memory end tm.stack outer (length b.frames + outer_calls)
-  pub behind : b.place + length outer ≡ end
+-- ---- the memory
+
+-- Main's memory at a task's call: its stack ends at the task's place and is within main's limits, what is live below leaves the task
+-- room, and each byte of a window is live.
+pub record IsCalled (uses : List Use) (place : ℕ) (at_call : Memory) : Type 0 where
+  pub limit : at_call.limit ≡ erased_stack
+  pub stack : place + length at_call.stack ≡ at_call.end
+  pub bytes : length at_call.stack ≤ 1048576
+  pub calls : at_call.calls ≤ 32768
+  pub room : heap_top at_call + 1064960 ≤ at_call.end
+  pub live : (a : ℕ) → IsWindowed uses a → is_live_byte at_call a ≡ true
+
+-- The flat memory while a task's body runs: the task's stack is in front of a memory that is as at the call, but for bytes that the
+-- task may write; there each byte of a window is the task's own, unless it is only written and isn't written yet.
+pub record InStep (b : Body) (at_call m : Memory) (tm : TaskMemory) : Type 0 where
+  pub around : Memory
+  pub is : m ≡ in_front tm.stack (length b.frames) around
+  pub shape : SameShape around at_call
   pub place_is : tm.place ≡ b.place
   pub deep : length tm.stack ≡ total b.frames
   pub bytes : total b.frames ≤ 16384
   pub has : (a : ℕ) → IsWindowed b.uses a → is_in_regions tm.regions a ≡ true
-  pub same : (a : ℕ) → IsWindowed b.uses a → is_unwritten b a ≡ false → slice_index outer (a - b.place) ≡ byte_of_regions tm.regions a
-  pub others : (a : ℕ) → b.place ≤ a → a < end → is_written b.uses a ≡ false → slice_index outer (a - b.place) ≡ slice_index at_call (a - b.place)
+  pub same : (a : ℕ) → IsWindowed b.uses a → is_unwritten b a ≡ false → byte_at around a ≡ byte_of_regions tm.regions a
+  pub others : (a : ℕ) → is_live_byte at_call a ≡ true → is_written b.uses a ≡ false → byte_at around a ≡ byte_at at_call a
 
-module _ (b : Body) (end outer_calls : ℕ) (at_call : List ℕ) (windowed : (a : ℕ) → IsWindowed b.uses a → (b.place ≤ a) × (a < end)) (high : 16384 ≤ b.place) (m : Memory) (tm : TaskMemory) (step : InStep b end outer_calls at_call m tm) where
+module _ (b : Body) (at_call : Memory) (called : IsCalled b.uses b.place at_call) (m : Memory) (tm : TaskMemory) (step : InStep b at_call m tm) where
   abbrev depth : ℕ
   depth = total b.frames
 
-  pub stack_length : length (tm.stack ++ step.outer) ≡ depth + length step.outer
-  stack_length = length-append tm.stack step.outer ∙ ap (λ n. n + length step.outer) step.deep
+  pub at_end : b.place + length step.around.stack ≡ step.around.end
+  at_end = omega (arith, called.stack, step.shape.stack, step.shape.end)
 
-  pub lowest : end - length (tm.stack ++ step.outer) ≡ b.place - depth
-  lowest = omega (arith, stack_length, step.behind)
+  pub below : heap_top step.around + 16384 ≤ b.place
+  below = omega (arith, top_same step.around at_call step.shape, called.room, called.stack, called.bytes)
+
+  pub short : length tm.stack ≤ 16384
+  short = omega (arith, step.deep, step.bytes)
+
+  pub lowest : stack_place (in_front tm.stack (length b.frames) step.around) ≡ b.place - depth
+  lowest = front_lowest tm.stack (length b.frames) step.around b.place at_end below short ∙ ap (λ n. b.place - n) step.deep
 
   pub task_lowest : task_place tm ≡ b.place - depth
   task_lowest = ap₂ (λ p n. p - n) step.place_is step.deep
 
+  -- a byte of a window is live without the task's stack
+  pub window_live : (a : ℕ) → IsWindowed b.uses a → is_live_byte step.around a ≡ true
+  window_live a held = live_same step.around at_call step.shape a ∙ called.live a held
+
   given_live : (a : ℕ) → IsGiven b a → is_live_byte m a ≡ true
   given_live a given =
-      rw (step.is, flat_live end tm.stack step.outer (length b.frames + outer_calls) a, lowest) (elim given [
-        | inl framed ↦ between_by (b.place - depth) end a framed.0 (omega (arith, framed.1, step.behind))
-        | inr in_window ↦ between_by (b.place - depth) end a (omega (arith, (windowed a in_window).0)) (windowed a in_window).1
+      rw step.is (elim given [
+        | inl framed ↦ live_front tm.stack (length b.frames) step.around b.place at_end below short a (omega (arith, framed.0, step.deep)) framed.1
+        | inr in_window ↦ live_around tm.stack (length b.frames) step.around b.place at_end below short a (window_live a in_window)
       ])
 
   -- a byte of the task's stack
   in_frames : (a : ℕ) → b.place - depth ≤ a → a < b.place → byte_at m a ≡ task_byte tm a
-  in_frames a above below =
-      let framed : is_between (task_place tm) tm.place a ≡ true = rw (task_lowest, step.place_is) (between_by (b.place - depth) b.place a above below) in
-      rw (step.is, flat_byte end tm.stack step.outer (length b.frames + outer_calls) a, lowest, framed, task_lowest)
-      (get_or_append_left tm.stack step.outer 0 (a - (b.place - depth)) (omega (arith, above, below, high, step.bytes, step.deep)))
+  in_frames a above under =
+      let framed : is_between (task_place tm) tm.place a ≡ true = rw (task_lowest, step.place_is) (between_by (b.place - depth) b.place a above under) in
+      let mine : byte_at (in_front tm.stack (length b.frames) step.around) a ≡ slice_index tm.stack (a - task_place tm) =
+      byte_front tm.stack (length b.frames) step.around b.place at_end below short a (omega (arith, above, step.deep)) under
+      ∙ ap (λ n. slice_index tm.stack (a - n)) (ap (λ n. n - length tm.stack) (sym step.place_is)) in
+      ap (λ (m : Memory). byte_at m a) step.is ∙ mine
+      ∙ sym (ap (λ b. if b then slice_index tm.stack (a - task_place tm) else byte_of_regions tm.regions a) framed)
 
   in_windows : (a : ℕ) → IsWindowed b.uses a → is_unwritten b a ≡ false → byte_at m a ≡ task_byte tm a
   in_windows a held known =
-      let above = (windowed a held).0 in
-      let out : is_between (task_place tm) tm.place a ≡ false = rw step.place_is (grind (arith, nat_tests, above)) in
-      let at : a - (b.place - depth) - depth ≡ a - b.place = omega (arith, above, high, step.bytes) in
-      rw (step.is, flat_byte end tm.stack step.outer (length b.frames + outer_calls) a, lowest, out)
-      (get_or-append_right tm.stack step.outer depth (a - (b.place - depth)) 0 step.deep (omega (arith, above, high, step.bytes))
-      ∙ ap (λ k. slice_index step.outer k) at ∙ step.same a held known)
+      let live = window_live a held in
+      let out : is_between (task_place tm) tm.place a ≡ false =
+      ap (λ p. is_between (p - length tm.stack) p a) step.place_is ∙ clear_around tm.stack (length b.frames) step.around b.place at_end below short a live in
+      ap (λ (m : Memory). byte_at m a) step.is
+      ∙ byte_around tm.stack (length b.frames) step.around b.place at_end below short a live
+      ∙ step.same a held known
+      ∙ sym (ap (λ b. if b then slice_index tm.stack (a - task_place tm) else byte_of_regions tm.regions a) out)
 
   given_byte : (a : ℕ) → IsGiven b a → is_unwritten b a ≡ false → byte_at m a ≡ task_byte tm a
   given_byte a (inl framed) known = in_frames a framed.0 framed.1

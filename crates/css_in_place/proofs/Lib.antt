@@ -1,6 +1,8 @@
 pub mod Alike
 pub mod Hits
 pub mod TaskBytes
+pub mod Shapes
+pub mod Fronts
 pub mod Bytes
 pub mod Given
 pub mod Inputs

@@ -9,7 +9,7 @@ use Rattle.css_base.specs.declared.limits.Limits.{Limits}
 use Rattle.css_base.specs.declared.rule.Rule.{Rule}
 use Rattle.css_semantics.specs.Dialogue.{Action, Enter, Turn, Leave, Load, Store, Out, Calls, Returns, Start, Finish, Barrier, Fault, End, Tape, Reply, Says, Fails, Refuses, World, Outcome, Goes, Stops, tape_of, item, then_do, replied, ask}
 use Rattle.css_semantics.specs.Memory.{Memory, big_endian_bytes, memory_after}
-use Rattle.css_semantics.specs.Flat.{no_frames, reply_in}
+use Rattle.css_semantics.specs.Flat.{FlatState, reply_in, flat_at, IsStart}
 use Rattle.css_semantics.specs.Tasks.{Body, body, is_started}
 use Rattle.css_semantics.specs.TaskSpaces.{total}
 use Rattle.css_semantics.specs.Rules.{hit, judged_reply, checks_of_main}
@@ -32,24 +32,24 @@ use Rattle.css_semantics.proofs.TaskBytes.{all_at}
 use Rattle.css_in_place.proofs.Alike.{contains_at}
 use Rattle.css_in_place.proofs.Hits.{hit_in, fault_hit}
 use Rattle.css_in_place.proofs.TaskBytes.{total_more}
-use Rattle.css_in_place.proofs.Entry.{shape_of}
+use Rattle.css_semantics.proofs.LaidOut.{laid_along}
 use Rattle.css_in_place.proofs.Stands.{IsStill, AreWithin, Stands, at_first, kept_by, after_entry, after_leaving, after_call, after_return}
 
 none_is : (o : Option Body) → is_none o ≡ true → o ≡ None
 none_is None is = refl
 none_is (Some b) is = absurd (cc)
 
-module _ (code : Code) (limits : Limits) (in_range : IsInRange limits) where
+module _ (code : Code) (limits : Limits) (from : FlatState) (in_range : IsInRange limits) (starts : IsStart limits.memory from) where
   abbrev w : World
-  w = judged_in limits
+  w = judged_in limits from
 
   abbrev start : Memory
-  start = no_frames limits.memory
+  start = from.memory
 
   -- ---- tapes on which no rule is broken, and each call of a task has its place
 
   abbrev IsFine : Tape → Type 0
-  IsFine t = IsClear start limits t × ArePlaced code limits t
+  IsFine t = IsClear start limits t × ArePlaced code limits from t
 
   abbrev Keeps : {A : Type 0} → (A → Tape → Type 0) → Outcome A → Type 0
   Keeps P (Goes a t) = IsFine t × P a t
@@ -69,19 +69,19 @@ module _ (code : Code) (limits : Limits) (in_range : IsInRange limits) where
 
   -- behind an action that the flat memory grants
   abbrev Done : Action → ℕ → Tape → ℕ → Tape → Type 0
-  Done action line t v t' = (t' ≡ item action line ∷ t) × (reply_in (memory_after start t) action ≡ Says v) × (hit start limits t action ≡ None)
+  Done action line t v t' = (t' ≡ item action line ∷ t) × (reply_in (flat_at from t) action ≡ Says v) × (hit start limits t action ≡ None)
 
-  replied_keeps : (o : Option Rule) (r : Reply) (action : Action) (line : ℕ) (t : Tape) → hit start limits t action ≡ o → reply_in (memory_after start t) action ≡ r
-      → (IsClear start limits (item action line ∷ t) → IsPlaced code limits action line t) → IsFine t → Keeps (Done action line t) (replied (judged_reply o r) (item action line) t)
+  replied_keeps : (o : Option Rule) (r : Reply) (action : Action) (line : ℕ) (t : Tape) → hit start limits t action ≡ o → reply_in (flat_at from t) action ≡ r
+      → (IsClear start limits (item action line ∷ t) → IsPlaced code limits from action line t) → IsFine t → Keeps (Done action line t) (replied (judged_reply o r) (item action line) t)
   replied_keeps (Some rule) r action line t hits is placed fine = fine
   replied_keeps None (Says v) action line t hits is placed fine = (((hits, fine.0), (placed (hits, fine.0), fine.1)), (refl, is, hits))
   replied_keeps None Fails action line t hits is placed fine = fault_fine faults.OutsideMemory line (item action line ∷ t) ((hits, fine.0), (placed (hits, fine.0), fine.1))
   replied_keeps None (Refuses rule) action line t hits is placed fine = fine
 
-  asked : (action : Action) (line : ℕ) (t : Tape) → (IsClear start limits (item action line ∷ t) → IsPlaced code limits action line t) → IsFine t → Keeps (Done action line t) (ask w action line t)
-  asked action line t placed fine = replied_keeps (hit start limits t action) (reply_in (memory_after start t) action) action line t refl refl placed fine
+  asked : (action : Action) (line : ℕ) (t : Tape) → (IsClear start limits (item action line ∷ t) → IsPlaced code limits from action line t) → IsFine t → Keeps (Done action line t) (ask w action line t)
+  asked action line t placed fine = replied_keeps (hit start limits t action) (reply_in (flat_at from t) action) action line t refl refl placed fine
 
-  still_placed : (action : Action) (line : ℕ) (t : Tape) → IsStill action → IsPlaced code limits action line t
+  still_placed : (action : Action) (line : ℕ) (t : Tape) → IsStill action → IsPlaced code limits from action line t
   still_placed (Calls call) line t still = absurd still
   still_placed _ line t still = tt
 
@@ -109,7 +109,7 @@ module _ (code : Code) (limits : Limits) (in_range : IsInRange limits) where
 
   -- main runs, or what it calls
   abbrev InMain : Activation → List Caller → Tape → Type 0
-  InMain a callers t = (a.is_task ≡ false) × ArePlain callers × Stands limits.memory true (frame a ∷ frames_of callers) (frame a ∷ frames_of callers) t
+  InMain a callers t = (a.is_task ≡ false) × ArePlain callers × Stands start true (frame a ∷ frames_of callers) (frame a ∷ frames_of callers) t
 
   -- a function that a task reaches runs; the callers behind the task are main's, with these frames
   abbrev IsOfTask : Activation → List Caller → (mains : List ℕ) → Type 0
@@ -123,13 +123,13 @@ module _ (code : Code) (limits : Limits) (in_range : IsInRange limits) where
   reached_by a (c ∷ callers) mains of_task = of_task.0
 
   abbrev InTask : Activation → List Caller → Tape → Type 0
-  InTask a callers t = (mains : List ℕ) × IsOfTask a callers mains × Stands limits.memory false (frame a ∷ frames_of callers) mains t
+  InTask a callers t = (mains : List ℕ) × IsOfTask a callers mains × Stands start false (frame a ∷ frames_of callers) mains t
 
   abbrev IsOn : Activation → List Caller → Tape → Type 0
   IsOn a callers t = AreBased a callers × (InMain a callers t ⊎ InTask a callers t)
 
   abbrev IsIn : State → Tape → Type 0
-  IsIn (Begin k arguments line) t = Stands limits.memory true [] [] t
+  IsIn (Begin k arguments line) t = Stands start true [] [] t
   IsIn (At a callers place stack) t = IsOn a callers t
 
   abbrev GoodAfter : After → Tape → Type 0
@@ -143,8 +143,8 @@ module _ (code : Code) (limits : Limits) (in_range : IsInRange limits) where
   on_still a callers action line t still on = (
     on.0,
     elim on.1 [
-      | inl main ↦ inl (main.0, main.1, kept_by limits.memory t line true (frame a ∷ frames_of callers) (frame a ∷ frames_of callers) action still main.2)
-      | inr task ↦ inr (task.0, task.1, kept_by limits.memory t line false (frame a ∷ frames_of callers) task.0 action still task.2)
+      | inl main ↦ inl (main.0, main.1, kept_by start t line true (frame a ∷ frames_of callers) (frame a ∷ frames_of callers) action still main.2)
+      | inr task ↦ inr (task.0, task.1, kept_by start t line false (frame a ∷ frames_of callers) task.0 action still task.2)
     ],
   )
 
@@ -152,22 +152,22 @@ module _ (code : Code) (limits : Limits) (in_range : IsInRange limits) where
 
   -- a frame of so many bytes lies in front of these, at this base
   abbrev IsInFront : Bool → (frames mains : List ℕ) → (n base : ℕ) → Tape → Type 0
-  IsInFront is_main frames mains n base t = (base ≡ limits.memory - total (n ∷ frames)) × Stands limits.memory is_main (n ∷ frames) (if is_main then n ∷ mains else mains) t
+  IsInFront is_main frames mains n base t = (base ≡ limits.memory - total (n ∷ frames)) × Stands start is_main (n ∷ frames) (if is_main then n ∷ mains else mains) t
 
-  stores_keeps : (address : ℕ) (parameters arguments : List ℕ) (line : ℕ) (t : Tape) (is_main : Bool) (frames mains : List ℕ) → IsFine t → Stands limits.memory is_main frames mains t
-      → Keeps (λ r t'. Stands limits.memory is_main frames mains t') (stores w address parameters arguments line t)
+  stores_keeps : (address : ℕ) (parameters arguments : List ℕ) (line : ℕ) (t : Tape) (is_main : Bool) (frames mains : List ℕ) → IsFine t → Stands start is_main frames mains t
+      → Keeps (λ r t'. Stands start is_main frames mains t') (stores w address parameters arguments line t)
   stores_keeps address (width ∷ parameters) (a ∷ arguments) line t is_main frames mains fine s =
       let action = Store (address % 2 ^ 32) (big_endian_bytes width a) in
-      then_keeps (Done action line t) (λ r t'. Stands limits.memory is_main frames mains t') (ask w action line t) (λ r t'. stores w (address + 8) parameters arguments line t')
+      then_keeps (Done action line t) (λ r t'. Stands start is_main frames mains t') (ask w action line t) (λ r t'. stores w (address + 8) parameters arguments line t')
       (asked action line t (λ c. tt) fine)
       (λ r t' fine' done.
       stores_keeps (address + 8) parameters arguments line t' is_main frames mains fine'
-      (subst (Stands limits.memory is_main frames mains) (sym done.0) (kept_by limits.memory t line is_main frames mains action tt s)))
+      (subst (Stands start is_main frames mains) (sym done.0) (kept_by start t line is_main frames mains action tt s)))
   stores_keeps address [] arguments line t is_main frames mains fine s = (fine, s)
   stores_keeps address (width ∷ parameters) [] line t is_main frames mains fine s = (fine, s)
 
   -- main's stack takes one more frame, where no rule refuses it
-  one_more : (t : Tape) (is_main : Bool) (frames mains : List ℕ) (n : ℕ) → (is_main ≡ true → mains ≡ frames) → Stands limits.memory is_main frames mains t → hit start limits t (Enter n) ≡ None → is_main ≡ true → AreWithin (n ∷ mains)
+  one_more : (t : Tape) (is_main : Bool) (frames mains : List ℕ) (n : ℕ) → (is_main ≡ true → mains ≡ frames) → Stands start is_main frames mains t → hit start limits t (Enter n) ≡ None → is_main ≡ true → AreWithin (n ∷ mains)
   one_more t is_main frames mains n same s none main =
       let m = memory_after start t in
       let by_main : body t ≡ None = none_is (body t) (s.who ∙ main) in
@@ -177,17 +177,17 @@ module _ (code : Code) (limits : Limits) (in_range : IsInRange limits) where
       let many : length mains ≡ length frames = ap length (same main) in
       (omega (arith, ltb-false 1048576 (length m.stack + n) parts.0, s.deep, all, total_more n mains), omega (arith, leb-false 32768 m.calls parts.1, s.opened, many))
 
-  entered_keeps : (f : Routine) (arguments : List ℕ) (line : ℕ) (t : Tape) (is_main : Bool) (frames mains : List ℕ) → (is_main ≡ true → mains ≡ frames) → IsFine t → Stands limits.memory is_main frames mains t
+  entered_keeps : (f : Routine) (arguments : List ℕ) (line : ℕ) (t : Tape) (is_main : Bool) (frames mains : List ℕ) → (is_main ≡ true → mains ≡ frames) → IsFine t → Stands start is_main frames mains t
       → Keeps (IsInFront is_main frames mains f.frame) (entered w f arguments line t)
   entered_keeps f arguments line t is_main frames mains same fine s =
       let inner : List ℕ = if is_main then f.frame ∷ mains else mains in
       then_keeps (Done (Enter f.frame) line t) (IsInFront is_main frames mains f.frame) (ask w (Enter f.frame) line t) (λ base t'. then_do (stores w base f.parameters arguments line t') (λ r t''. Goes base t''))
       (asked (Enter f.frame) line t (λ c. tt) fine)
       (λ base t' fine' done.
-      let s' = after_entry limits.memory t line is_main frames mains f.frame (one_more t is_main frames mains f.frame same s done.2) s in
-      let at : base ≡ limits.memory - total (f.frame ∷ frames) = omega (arith, enters (memory_after start t) f.frame base done.1, (shape_of limits.memory t).end, s'.deep) in
-      then_keeps (λ r t''. Stands limits.memory is_main (f.frame ∷ frames) inner t'') (IsInFront is_main frames mains f.frame) (stores w base f.parameters arguments line t') (λ r t''. Goes base t'')
-      (stores_keeps base f.parameters arguments line t' is_main (f.frame ∷ frames) inner fine' (subst (Stands limits.memory is_main (f.frame ∷ frames) inner) (sym done.0) s'))
+      let s' = after_entry start t line is_main frames mains f.frame (one_more t is_main frames mains f.frame same s done.2) s in
+      let at : base ≡ limits.memory - total (f.frame ∷ frames) = omega (arith, enters (memory_after start t) f.frame base done.1, (laid_along limits.memory start t starts.laid_out).end, s'.deep) in
+      then_keeps (λ r t''. Stands start is_main (f.frame ∷ frames) inner t'') (IsInFront is_main frames mains f.frame) (stores w base f.parameters arguments line t') (λ r t''. Goes base t'')
+      (stores_keeps base f.parameters arguments line t' is_main (f.frame ∷ frames) inner fine' (subst (Stands start is_main (f.frame ∷ frames) inner) (sym done.0) s'))
       (λ r t'' fine'' s''. (fine'', (at, s''))))
 
   -- ---- steps
@@ -261,32 +261,32 @@ module _ (code : Code) (limits : Limits) (in_range : IsInRange limits) where
       base_behind : (base : ℕ) → base ≡ limits.memory - total (f.frame ∷ all) → base ≡ limits.memory - total (frame_of (slice_get code.functions k) ∷ all)
       base_behind base at = at ∙ ap (λ n. limits.memory - total (n ∷ all)) framed
 
-      main_calls : (arguments rest : List ℕ) → a.is_task ≡ false → ArePlain callers → Stands limits.memory true all all t → Steps (calling w code a callers line place k f false arguments rest t)
+      main_calls : (arguments rest : List ℕ) → a.is_task ≡ false → ArePlain callers → Stands start true all all t → Steps (calling w code a callers line place k f false arguments rest t)
       main_calls arguments rest plain others s =
           then_keeps (IsInFront true all all f.frame) GoodAfter (entered w f arguments line t) _
           (entered_keeps f arguments line t true all all (λ h. refl) fine s)
           (λ base t' fine' held.
-          (fine', ((base_behind base held.0, based), inl (refl, (plain, others), subst (λ n. Stands limits.memory true (n ∷ all) (n ∷ all) t') framed held.1))))
+          (fine', ((base_behind base held.0, based), inl (refl, (plain, others), subst (λ n. Stands start true (n ∷ all) (n ∷ all) t') framed held.1))))
 
-      task_calls : (arguments rest : List ℕ) (mains : List ℕ) → IsOfTask a callers mains → IsReached code k → Stands limits.memory false all mains t → Steps (calling w code a callers line place k f false arguments rest t)
+      task_calls : (arguments rest : List ℕ) (mains : List ℕ) → IsOfTask a callers mains → IsReached code k → Stands start false all mains t → Steps (calling w code a callers line place k f false arguments rest t)
       task_calls arguments rest mains of_task reached s =
           then_keeps (IsInFront false all mains f.frame) GoodAfter (entered w f arguments line t) _
           (entered_keeps f arguments line t false all mains (λ h. absurd (cc)) fine s)
           (λ base t' fine' held.
-          (fine', ((base_behind base held.0, based), inr (mains, (reached, inr (refl, of_task)), subst (λ n. Stands limits.memory false (n ∷ all) mains t') framed held.1))))
+          (fine', ((base_behind base held.0, based), inr (mains, (reached, inr (refl, of_task)), subst (λ n. Stands start false (n ∷ all) mains t') framed held.1))))
 
-      begins_task : (arguments rest : List ℕ) → a.is_task ≡ false → ArePlain callers → IsReached code k → Stands limits.memory false all all t → Steps (calling w code a callers line place k f true arguments rest t)
+      begins_task : (arguments rest : List ℕ) → a.is_task ≡ false → ArePlain callers → IsReached code k → Stands start false all all t → Steps (calling w code a callers line place k f true arguments rest t)
       begins_task arguments rest plain others reached s =
           then_keeps (IsInFront false all all f.frame) GoodAfter (entered w f arguments line t) _
           (entered_keeps f arguments line t false all all (λ h. refl) fine s)
           (λ base t' fine' held.
-          (fine', ((base_behind base held.0, based), inr (all, (reached, inl (refl, plain, others, refl)), subst (λ n. Stands limits.memory false (n ∷ all) all t') framed held.1))))
+          (fine', ((base_behind base held.0, based), inr (all, (reached, inl (refl, plain, others, refl)), subst (λ n. Stands start false (n ∷ all) all t') framed held.1))))
 
-      called_keeps : (arguments rest : List ℕ) (reply : ℕ) → a.is_task ≡ false → ArePlain callers → IsReached code k → Stands limits.memory false all all t → Steps (called w code a callers line place k f arguments rest reply t)
+      called_keeps : (arguments rest : List ℕ) (reply : ℕ) → a.is_task ≡ false → ArePlain callers → IsReached code k → Stands start false all all t → Steps (called w code a callers line place k f arguments rest reply t)
       called_keeps arguments rest zero plain others reached s =
           then_keeps (Done Returns line t) GoodAfter (ask w Returns line t) (λ r t'. next w code a callers line place (0 ∷ rest) t')
           (asked Returns line t (λ c. tt) fine)
-          (λ r t' fine' done. (fine', (based, inl (plain, others, subst (Stands limits.memory true all all) (sym done.0) (after_return limits.memory t line all all s)))))
+          (λ r t' fine' done. (fine', (based, inl (plain, others, subst (Stands start true all all) (sym done.0) (after_return start t line all all s)))))
       called_keeps arguments rest (suc reply) plain others reached s = begins_task arguments rest plain others reached s
 
     -- main calls a task
@@ -294,7 +294,7 @@ module _ (code : Code) (limits : Limits) (in_range : IsInRange limits) where
         → Steps (then_do (ask w (Calls (call_of k f shape arguments dimensions a.base)) line t) (λ r t'. called w code a callers line place k f arguments rest r t'))
     submits_keeps t fine based main k f shape arguments dimensions rest is has count =
         let call = call_of k f shape arguments dimensions a.base in
-        let s = after_call limits.memory t line all all call main.2 in
+        let s = after_call start t line all all call main.2 in
         then_keeps (Done (Calls call) line t) GoodAfter (ask w (Calls call) line t) (λ r t'. called w code a callers line place k f arguments rest r t')
         (asked (Calls call) line t
         (λ clear. (
@@ -312,12 +312,13 @@ module _ (code : Code) (limits : Limits) (in_range : IsInRange limits) where
             by_main = none_is (body t) main.2.who;
             allowed = clear.0;
             in_range = in_range;
+            starts = starts;
             within = (omega (arith, s.deep, s.within.0), omega (arith, s.opened, s.within.1));
-            place_is = omega (arith, base_is a callers based, (shape_of limits.memory t).end, s.deep);
+            place_is = omega (arith, base_is a callers based, (laid_along limits.memory start t starts.laid_out).end, s.deep);
           },
         )) fine)
         (λ r t' fine' done.
-        called_keeps t' fine' based k f is arguments rest r main.0 main.1 (Itself f shape is has) (subst (Stands limits.memory false all all) (sym done.0) s))
+        called_keeps t' fine' based k f is arguments rest r main.0 main.1 (Itself f shape is has) (subst (Stands start false all all) (sym done.0) s))
 
   -- ---- returns
 
@@ -332,22 +333,22 @@ module _ (code : Code) (limits : Limits) (in_range : IsInRange limits) where
         | inl main ↦
             rw main.0 (then_keeps (Done (Leave a.base f.frame) line t) GoodAfter (ask w (Leave a.base f.frame) line t) _ leaves
             (λ r t' fine' done.
-            let s = subst (λ n. Stands limits.memory true (n ∷ behind) (frame a ∷ behind) t) framed main.2 in
-            (fine', (on.0.1, inl (main.1.0, main.1.1, subst (Stands limits.memory true behind behind) (sym done.0) (after_leaving limits.memory t line true behind (frame a ∷ behind) a.base f.frame s))))))
+            let s = subst (λ n. Stands start true (n ∷ behind) (frame a ∷ behind) t) framed main.2 in
+            (fine', (on.0.1, inl (main.1.0, main.1.1, subst (Stands start true behind behind) (sym done.0) (after_leaving start t line true behind (frame a ∷ behind) a.base f.frame s))))))
         | inr task ↦
-            let s = subst (λ n. Stands limits.memory false (n ∷ behind) task.0 t) framed task.2 in
-            let left = after_leaving limits.memory t line false behind task.0 a.base f.frame s in
+            let s = subst (λ n. Stands start false (n ∷ behind) task.0 t) framed task.2 in
+            let left = after_leaving start t line false behind task.0 a.base f.frame s in
             elim task.1.1 [
               | inl here ↦
                   rw here.0 (then_keeps (Done (Leave a.base f.frame) line t) GoodAfter (ask w (Leave a.base f.frame) line t) _ leaves
                   (λ r t' fine' done.
                   then_keeps (Done Returns line t') GoodAfter (ask w Returns line t') _ (asked Returns line t' (λ h. tt) fine')
                   (λ r' t'' fine'' done'.
-                  let back = after_return limits.memory t' line behind task.0 (subst (Stands limits.memory false behind task.0) (sym done.0) left) in
-                  (fine'', (on.0.1, inl (here.1, here.2, subst (λ mains. Stands limits.memory true behind mains t'') here.3 (subst (Stands limits.memory true behind task.0) (sym done'.0) back)))))))
+                  let back = after_return start t' line behind task.0 (subst (Stands start false behind task.0) (sym done.0) left) in
+                  (fine'', (on.0.1, inl (here.1, here.2, subst (λ mains. Stands start true behind mains t'') here.3 (subst (Stands start true behind task.0) (sym done'.0) back)))))))
               | inr there ↦
                   rw there.0 (then_keeps (Done (Leave a.base f.frame) line t) GoodAfter (ask w (Leave a.base f.frame) line t) _ leaves
-                  (λ r t' fine' done. (fine', (on.0.1, inr (task.0, there.1, subst (Stands limits.memory false behind task.0) (sym done.0) left)))))
+                  (λ r t' fine' done. (fine', (on.0.1, inr (task.0, there.1, subst (Stands start false behind task.0) (sym done.0) left)))))
             ]
       ]
 
@@ -422,14 +423,14 @@ module _ (code : Code) (limits : Limits) (in_range : IsInRange limits) where
         (λ task. all_at (λ i. IsQuiet code i.op) f.body place i (sound.quiet a.function f (reached_by a callers task.0 task.1) is) at)
         (λ k calls task. Called a.function f i (reached_by a callers task.0 task.1) is (contains_at f.body place i at) calls)
 
-    beginning_keeps : (k : ℕ) (f : Routine) (arguments : List ℕ) (line : ℕ) (t : Tape) → IsFine t → Stands limits.memory true [] [] t → slice_get code.functions k ≡ Some f
+    beginning_keeps : (k : ℕ) (f : Routine) (arguments : List ℕ) (line : ℕ) (t : Tape) → IsFine t → Stands start true [] [] t → slice_get code.functions k ≡ Some f
         → Steps (beginning w k f arguments line t)
     beginning_keeps k f arguments line t fine s is =
         let framed : f.frame ≡ frame_of (slice_get code.functions k) = ap frame_of (sym is) in
         then_keeps (IsInFront true [] [] f.frame) GoodAfter (entered w f arguments line t) _
         (entered_keeps f arguments line t true [] [] (λ h. refl) fine s)
         (λ base t' fine' held.
-        (fine', (held.0 ∙ ap (λ n. limits.memory - total (n ∷ [])) framed, inl (refl, tt, subst (λ n. Stands limits.memory true (n ∷ []) (n ∷ []) t') framed held.1))))
+        (fine', (held.0 ∙ ap (λ n. limits.memory - total (n ∷ [])) framed, inl (refl, tt, subst (λ n. Stands start true (n ∷ []) (n ∷ []) t') framed held.1))))
 
     step_keeps : (s : State) (t : Tape) → IsFine t → IsIn s t → Steps (step w code s t)
     step_keeps (Begin k arguments line) t fine held =
@@ -477,10 +478,10 @@ module _ (code : Code) (limits : Limits) (in_range : IsInRange limits) where
     target_keeps n =
         let f = slice_get code.functions code.main in
         then_keeps Any Any (exec w code n (Begin code.main [] (entry_line f)) []) (main_ends w (frame_of f))
-        (exec_keeps n (Begin code.main [] (entry_line f)) [] (tt, tt) (at_first limits.memory)) (λ halt t fine any. main_ends_keeps (frame_of f) halt t fine)
+        (exec_keeps n (Begin code.main [] (entry_line f)) [] (tt, tt) (at_first start starts.stack starts.calls)) (λ halt t fine any. main_ends_keeps (frame_of f) halt t fine)
 
     -- on main's judged tape each call of a task has its place
-    pub calls_placed : (n : ℕ) → ArePlaced code limits (tape_of (target w code n))
+    pub calls_placed : (n : ℕ) → ArePlaced code limits from (tape_of (target w code n))
     calls_placed n = (fine_tape Any (target w code n) (target_keeps n)).1
 
     -- and no rule is broken on it

@@ -4,7 +4,7 @@ use Rattle.std.proofs.lemmas.Nat.{mod-pow-add}
 use Rattle.css_base.specs.declared.limits.Limits.{Limits}
 use Rattle.css_semantics.specs.Dialogue.{Enter, Store, Tape, Argument, World, Outcome, Goes, Stops, then_do, ask}
 use Rattle.css_semantics.specs.Memory.{Memory, big_endian_bytes, memory_after}
-use Rattle.css_semantics.specs.Flat.{no_frames}
+use Rattle.css_semantics.specs.Flat.{FlatState}
 use Rattle.css_semantics.specs.Tasks.{Window, Use, window, window_of_dimensions, use_of}
 use Rattle.css_semantics.specs.Alone.{alone_world, outs_after}
 use Rattle.css_vm.specs.declared.code.ArgShape.{ArgShape}
@@ -114,10 +114,10 @@ narrowed_length (width ∷ parameters) (a ∷ arguments) same = ap suc (narrowed
 
 -- ---- the task of a record
 
-module _ (code : Code) (plans : List (List Spot)) (sound : IsSound code plans) (limits : Limits) (tape : Tape) (k : ℕ) (arguments : List ℕ) (line : ℕ) (uses : List Use) (place : ℕ) (at : IsAtCall code limits tape k arguments line uses place)
+module _ (code : Code) (plans : List (List Spot)) (sound : IsSound code plans) (limits : Limits) (start : FlatState) (tape : Tape) (k : ℕ) (arguments : List ℕ) (line : ℕ) (uses : List Use) (place : ℕ) (at : IsAtCall code limits start tape k arguments line uses place)
     (r : TaskRecord) (of_call : IsOfCall r (call_of k at.routine at.shape arguments at.dimensions place) line) where
   abbrev m : Memory
-  m = memory_after (no_frames limits.memory) tape
+  m = memory_after start.memory tape
 
   abbrev values : List ℕ
   values = narrowed_to at.routine.parameters arguments
@@ -134,7 +134,7 @@ module _ (code : Code) (plans : List (List Spot)) (sound : IsSound code plans) (
       ∙ arguments_of_call at.shape.arguments values at.dimensions
       (narrowed_length at.routine.parameters arguments at.counts ∙ sym (parts_length code at.shape.arguments at.routine.parameters (sound.shapes k at.routine at.shape at.function at.task).1))
 
-  same_task : (n : ℕ) → by_itself code limits tape at.shape r n ≡ alone (alone_world limits uses (inputs_at m uses) place) code k arguments line n
+  same_task : (n : ℕ) → by_itself code limits start tape at.shape r n ≡ alone (alone_world limits uses (inputs_at m uses) place) code k arguments line n
   same_task n =
       ap (λ us. alone (alone_world limits us (inputs_at m us) r.stack_place) code r.function (records.arguments at.shape r) r.line n) same_uses
       ∙ ap (λ p. alone (alone_world limits uses (inputs_at m uses) p) code r.function (records.arguments at.shape r) r.line n) of_call.place
@@ -143,11 +143,11 @@ module _ (code : Code) (plans : List (List Spot)) (sound : IsSound code plans) (
       ∙ ap (λ l. alone (alone_world limits uses (inputs_at m uses) place) code k values l n) of_call.line
       ∙ alone_low (alone_world limits uses (inputs_at m uses) place) code k at.routine at.function arguments line n
 
-  same_outs : (t : Tape) → outs_after (records.uses at.shape r) (inputs_of limits tape at.shape r) r.stack_place t ≡ outs_after uses (inputs_at m uses) place t
+  same_outs : (t : Tape) → outs_after (records.uses at.shape r) (inputs_of start tape at.shape r) r.stack_place t ≡ outs_after uses (inputs_at m uses) place t
   same_outs t = ap (λ us. outs_after us (inputs_at m us) r.stack_place t) same_uses ∙ ap (λ p. outs_after uses (inputs_at m uses) p t) of_call.place
 
   -- a record of a call fits its code
-  pub fits_at_call : HasInputs at.shape r → FitsAtCall code limits tape at.shape r
+  pub fits_at_call : HasInputs at.shape r → FitsAtCall code start tape at.shape r
   fits_at_call count = record {
     fits = record {
       routine = at.routine;
@@ -157,18 +157,18 @@ module _ (code : Code) (plans : List (List Spot)) (sound : IsSound code plans) (
       high = of_call.high;
       given = subst (λ scalars. records.AreGiven at.shape.arguments at.routine.parameters scalars (map coded_windows.window r.windows.items)) (sym of_call.scalars)
           (subst (records.AreGiven at.shape.arguments at.routine.parameters (scalars_of at.shape.arguments values)) (sym of_call.windows)
-          (call_is_given code limits tape k arguments line uses place at (sound.shapes k at.routine at.shape at.function at.task).1));
-      agree = subst records.AllAgree (sym same_uses) (call_agrees code limits tape k arguments line uses place at);
-      place = subst (λ p. 16384 ≤ p) (sym of_call.place) (has_room code limits tape k arguments line uses place at);
+          (call_is_given code limits start tape k arguments line uses place at (sound.shapes k at.routine at.shape at.function at.task).1));
+      agree = subst records.AllAgree (sym same_uses) (call_agrees code limits start tape k arguments line uses place at);
+      place = subst (λ p. 16384 ≤ p) (sym of_call.place) (has_room code limits start tape k arguments line uses place at);
       clear = subst (λ p. All (records.IsClearOfStack p) (records.uses at.shape r)) (sym of_call.place)
-          (subst (All (records.IsClearOfStack place)) (sym same_uses) (call_is_clear code limits tape k arguments line uses place at));
+          (subst (All (records.IsClearOfStack place)) (sym same_uses) (call_is_clear code limits start tape k arguments line uses place at));
       inputs = count;
     };
     inputs = inputs_fit m (records.uses at.shape r);
   }
 
   -- a call's body runs as the task of its record
-  pub as_record : RunsAlike code limits tape k arguments line uses place → RunsAsRecord code limits tape k arguments line at.shape r
+  pub as_record : RunsAlike code limits start tape k arguments line uses place → RunsAsRecord code limits start tape k arguments line at.shape r
   as_record alike = record {
     dialogue = λ n. alike.dialogue n ∙ ap (λ o. behind o tape) (sym (same_task n));
     memory = λ n cell t is.

@@ -1,9 +1,8 @@
 -- Main's frames and a task's make the whole stack, along a tape.
-use Rattle.std.proofs.Common.{◌≤◌, ◌≡◌, ℕ, Bool, true, false, List, [], ◌∷◌, length, drop, replicate, Option, Some, None, is_none, refl, ◌∙◌, arith, if◌then◌else◌}
+use Rattle.std.proofs.Common.{◌≤◌, ◌≡◌, ℕ, Bool, true, false, List, [], ◌∷◌, ◌++◌, length, drop, replicate, Option, Some, None, is_none, refl, ap, ◌∙◌, arith, if◌then◌else◌}
 use Rattle.std.proofs.lemmas.List.{length-append, length-drop, length-replicate}
-use Rattle.css_semantics.specs.Dialogue.{Action, Enter, Leave, Store, Calls, Returns, Call, Tape, item}
-use Rattle.css_semantics.specs.Memory.{Memory, is_live, stack_place, stored, after, memory_after}
-use Rattle.css_semantics.specs.Flat.{no_frames}
+use Rattle.css_semantics.specs.Dialogue.{Action, Enter, Leave, Store, Malloc, Calls, Returns, Call, Tape, item}
+use Rattle.css_semantics.specs.Memory.{Memory, rounded_up, has_heap, is_live, stack_place, stored, after, memory_after}
 use Rattle.css_semantics.specs.Tasks.{Body, body, body_after}
 use Rattle.css_semantics.specs.TaskSpaces.{total}
 use Rattle.css_semantics.proofs.StackPlaces.{length-overlaid}
@@ -25,16 +24,26 @@ stored_calls : (b : Bool) (m : Memory) (address : ℕ) (bytes : List ℕ) → (i
 stored_calls true m address bytes = refl
 stored_calls false m address bytes = refl
 
+grown_length : (b : Bool) (m : Memory) (n : ℕ) → length (if b then record m { heap = m.heap ++ replicate (rounded_up 16 n) 0 } else m).stack ≡ length m.stack
+grown_length true m n = refl
+grown_length false m n = refl
+
+grown_calls : (b : Bool) (m : Memory) (n : ℕ) → (if b then record m { heap = m.heap ++ replicate (rounded_up 16 n) 0 } else m).calls ≡ m.calls
+grown_calls true m n = refl
+grown_calls false m n = refl
+
 still_length : (m : Memory) (action : Action) → IsStill action → length (after m action).stack ≡ length m.stack
 still_length m (Enter n) still = absurd still
 still_length m (Leave base n) still = absurd still
 still_length m (Store address bytes) still = stored_length (is_live m address (length bytes)) m address bytes
+still_length m (Malloc n) still = grown_length (has_heap m n) m n
 still_length m _ still = refl
 
 still_calls : (m : Memory) (action : Action) → IsStill action → (after m action).calls ≡ m.calls
 still_calls m (Enter n) still = absurd still
 still_calls m (Leave base n) still = absurd still
 still_calls m (Store address bytes) still = stored_calls (is_live m address (length bytes)) m address bytes
+still_calls m (Malloc n) still = grown_calls (has_heap m n) m n
 still_calls m _ still = refl
 
 still_body : (o : Option Body) (action : Action) → IsStill action → is_none (body_after o action) ≡ is_none o
@@ -67,9 +76,9 @@ left_body : (o : Option Body) (base n : ℕ) → is_none (body_after o (Leave ba
 left_body None base n = refl
 left_body (Some b) base n = refl
 
-module _ (size : ℕ) where
+module _ (start : Memory) where
   abbrev pub flat_after : Tape → Memory
-  flat_after t = memory_after (no_frames size) t
+  flat_after t = memory_after start t
 
   -- The stack is made of these frames; main runs, or a task; and those are main's, within its limit.
   pub record Stands (is_main : Bool) (frames mains : List ℕ) (t : Tape) : Type 0 where
@@ -78,8 +87,8 @@ module _ (size : ℕ) where
     pub who : is_none (body t) ≡ is_main
     pub within : AreWithin mains
 
-  pub at_first : Stands true [] [] []
-  at_first = record { deep = refl; opened = refl; who = refl; within = (omega arith, omega arith) }
+  pub at_first : start.stack ≡ [] → start.calls ≡ 0 → Stands true [] [] []
+  at_first none zero = record { deep = ap length none; opened = zero; who = refl; within = (omega arith, omega arith) }
 
   module _ (t : Tape) (line : ℕ) where
     pub kept_by : (is_main : Bool) (frames mains : List ℕ) (action : Action) → IsStill action → Stands is_main frames mains t → Stands is_main frames mains (item action line ∷ t)

@@ -1,11 +1,11 @@
 -- At a task's call the judged world replies to the body as the world of the task by itself does.
-use Rattle.std.proofs.Common.{false, ◌≡◌, ℕ, ◌+◌, ◌-◌, ◌≤◌, ◌<◌, List, ◌∷◌, ◌++◌, Option, Some, None, refl, sym, ap, subst, ◌∙◌, arith, if◌then◌else◌}
+use Rattle.std.proofs.Common.{false, ◌≡◌, ℕ, ◌-◌, List, ◌∷◌, ◌++◌, Option, Some, None, refl, sym, ap, subst, ◌∙◌, arith, if◌then◌else◌}
 use Rattle.css_base.specs.declared.limits.Limits.{Limits}
 use Rattle.css_base.specs.declared.rule.Rule.{Rule}
-use Rattle.css_semantics.specs.Dialogue.{Action, Enter, Turn, Leave, Load, Store, Out, Calls, Returns, Start, Finish, Barrier, Wait, Fault, End, Tape, Reply, Says, Fails, item}
+use Rattle.css_semantics.specs.Dialogue.{Action, Enter, Turn, Leave, Load, Store, Out, In, Malloc, Calls, Returns, Start, Finish, Barrier, Wait, WaitFault, DimFault, Fault, End, Tape, Reply, Says, Fails, item}
 use Rattle.css_semantics.specs.Worlds.{state_after, AreOfMachine}
 use Rattle.css_semantics.specs.Memory.{Memory, memory_after}
-use Rattle.css_semantics.specs.Flat.{no_frames, reply_in}
+use Rattle.css_semantics.specs.Flat.{FlatState, memory_reply, reply_in, flat_at}
 use Rattle.css_semantics.specs.Tasks.{Use, Body, body, body_after, body_behind, frames_after}
 use Rattle.css_semantics.specs.Rules.{is_unwritten, checks_of_task, first_broken, hit, judged_reply}
 use Rattle.css_semantics.specs.Verdict.{judged_in}
@@ -14,7 +14,7 @@ use Rattle.css_semantics.specs.TaskSpaces.{total}
 use Rattle.css_in_place.proofs.Alike.{open_frames, Asks, asks_machine, AreAlike}
 use Rattle.css_in_place.proofs.TaskBytes.{total_more}
 use Rattle.css_in_place.proofs.Hits.{hit_in}
-use Rattle.css_in_place.proofs.Given.{is_windowed, IsWindowed, InStep, task_lowest}
+use Rattle.css_in_place.proofs.Given.{is_windowed, IsWindowed, IsCalled, InStep, task_lowest}
 use Rattle.css_in_place.proofs.Replies.{reply_same, is_inner_task, step_after, returned_known}
 
 -- what isn't refused breaks no rule
@@ -38,21 +38,25 @@ body_on b top frames (Leave base size) asks = refl
 body_on b top frames (Load address width) asks = refl
 body_on b top frames (Store address bytes) asks = refl
 body_on b top frames (Out bytes) asks = absurd asks
+body_on b top frames In asks = absurd asks
+body_on b top frames (Malloc size) asks = absurd asks
 body_on b top frames (Calls call) asks = absurd asks
 body_on b top frames Returns asks = absurd asks
 body_on b top frames Start asks = absurd asks
 body_on b top frames Finish asks = absurd asks
 body_on b top frames Barrier asks = absurd asks
 body_on b top frames (Wait address) asks = absurd asks
+body_on b top frames WaitFault asks = absurd asks
+body_on b top frames DimFault asks = absurd asks
 body_on b top frames (Fault kind) asks = absurd asks
 body_on b top frames (End result) asks = absurd asks
 
-module _ (limits : Limits) (uses : List Use) (inputs : List (List ℕ)) (place outer_calls : ℕ) (at_call : List ℕ) (tape : Tape) where
+module _ (limits : Limits) (start : FlatState) (uses : List Use) (inputs : List (List ℕ)) (place : ℕ) (at_call : Memory) (tape : Tape) where
   abbrev pub solitude : Tape → Solitude
   solitude t = state_after alone_after (at_entry uses inputs place) t
 
-  abbrev pub flat_at : Tape → Memory
-  flat_at t = memory_after (no_frames limits.memory) (t ++ tape)
+  abbrev pub memory_at : Tape → Memory
+  memory_at t = memory_after start.memory (t ++ tape)
 
   -- what holds of the tapes that come, by the task's state
   pub record Stands (t : Tape) (s : Solitude) : Type 0 where
@@ -61,57 +65,78 @@ module _ (limits : Limits) (uses : List Use) (inputs : List (List ℕ)) (place o
     pub place_is : s.body.place ≡ place
     pub frames_are : s.body.frames ≡ open_frames t
     pub machine : AreOfMachine t
-    pub step : InStep s.body limits.memory outer_calls at_call (flat_at t) s.memory
+    pub step : InStep s.body at_call (memory_at t) s.memory
 
   abbrev pub Holds : Tape → Type 0
   Holds t = Stands t (solitude t)
 
-  module _ (windowed : (a : ℕ) → IsWindowed uses a → (place ≤ a) × (a < limits.memory)) (large : 2097152 ≤ limits.memory) (near : limits.memory ≤ place + 1048576) (few : outer_calls ≤ 32768) where
+  module _ (called : IsCalled uses place at_call) where
     module _ (t : Tape) (holds : Holds t) where
-      windowed_here : (a : ℕ) → IsWindowed (solitude t).body.uses a → ((solitude t).body.place ≤ a) × (a < limits.memory)
-      windowed_here a held =
-          let bounds = windowed a (subst (λ us. IsWindowed us a) holds.uses_are held) in
-          (omega (arith, bounds.0, holds.place_is), bounds.1)
-
-      near_here : limits.memory ≤ (solitude t).body.place + 1048576
-      near_here = omega (arith, near, holds.place_is)
+      called_here : IsCalled (solitude t).body.uses (solitude t).body.place at_call
+      called_here = subst (λ us. IsCalled us (solitude t).body.place at_call) (sym holds.uses_are) (subst (λ p. IsCalled uses p at_call) (sym holds.place_is) called)
 
       asks_here : (action : Action) → Asks place (open_frames t) action → Asks (solitude t).body.place (solitude t).body.frames action
       asks_here action asks =
           subst (λ frames. Asks (solitude t).body.place frames action) (sym holds.frames_are) (subst (λ top. Asks top (open_frames t) action) (sym holds.place_is) asks)
 
-      hit_is : (action : Action) → hit (no_frames limits.memory) limits (t ++ tape) action ≡ first_broken (checks_of_task limits (solitude t).body action)
-      hit_is action = ap (hit_in (flat_at t) limits (t ++ tape) action) holds.body_is
+      hit_is : (action : Action) → hit start.memory limits (t ++ tape) action ≡ first_broken (checks_of_task limits (solitude t).body action)
+      hit_is action = ap (hit_in (memory_at t) limits (t ++ tape) action) holds.body_is
 
       judged_same : (action : Action) (o : Option Rule) → Asks place (open_frames t) action → first_broken (checks_of_task limits (solitude t).body action) ≡ o
-          → judged_reply o (reply_in (flat_at t) action) ≡ judged_reply o (task_reply (solitude t).memory (solitude t).body.frames action)
-      judged_same action None asks none = reply_same limits (solitude t).body limits.memory outer_calls at_call windowed_here large near_here few (flat_at t) (solitude t).memory holds.step action (asks_here action asks) none
+          → judged_reply o (memory_reply (memory_at t) action) ≡ judged_reply o (task_reply (solitude t).memory (solitude t).body.frames action)
+      judged_same action None asks none = reply_same limits (solitude t).body at_call called_here (memory_at t) (solitude t).memory holds.step action (asks_here action asks) none
       judged_same action (Some rule) asks none = refl
 
-      replies_same : (action : Action) (line : ℕ) → Asks place (open_frames t) action → judged_in limits (t ++ tape) (item action line) ≡ alone_world limits uses inputs place t (item action line)
+      -- what is asked is asked of the memory
+      asks_memory : (action : Action) → Asks place (open_frames t) action → reply_in (flat_at start (t ++ tape)) action ≡ memory_reply (memory_at t) action
+      asks_memory (Enter size) asks = refl
+      asks_memory Turn asks = refl
+      asks_memory (Leave base size) asks = refl
+      asks_memory (Load address width) asks = refl
+      asks_memory (Store address bytes) asks = refl
+      asks_memory (Out bytes) asks = absurd asks
+      asks_memory In asks = absurd asks
+      asks_memory (Malloc size) asks = absurd asks
+      asks_memory (Calls call) asks = absurd asks
+      asks_memory Returns asks = absurd asks
+      asks_memory Start asks = absurd asks
+      asks_memory Finish asks = absurd asks
+      asks_memory Barrier asks = absurd asks
+      asks_memory (Wait address) asks = absurd asks
+      asks_memory WaitFault asks = absurd asks
+      asks_memory DimFault asks = absurd asks
+      asks_memory (Fault kind) asks = absurd asks
+      asks_memory (End result) asks = absurd asks
+
+      replies_same : (action : Action) (line : ℕ) → Asks place (open_frames t) action → judged_in limits start (t ++ tape) (item action line) ≡ alone_world limits uses inputs place t (item action line)
       replies_same action line asks =
-          ap (λ o. judged_reply o (reply_in (flat_at t) action)) (hit_is action)
+          ap (λ o. judged_reply o (reply_in (flat_at start (t ++ tape)) action)) (hit_is action)
+          ∙ ap (judged_reply (first_broken (checks_of_task limits (solitude t).body action))) (asks_memory action asks)
           ∙ judged_same action (first_broken (checks_of_task limits (solitude t).body action)) asks refl
 
-      returns_same : (line : ℕ) → judged_in limits (t ++ tape) (item Returns line) ≡ alone_world limits uses inputs place t (item Returns line)
+      returns_same : (line : ℕ) → judged_in limits start (t ++ tape) (item Returns line) ≡ alone_world limits uses inputs place t (item Returns line)
       returns_same line = ap (λ o. judged_reply o (Says 0)) (hit_is Returns)
 
       -- the task's state goes on
       goes_on : (action : Action) → Asks place (open_frames t) action → alone_after (solitude t) action ≡ alone_behind (solitude t) action
       goes_on (Leave base size) asks =
-          let inner = is_inner_task limits (solitude t).body limits.memory outer_calls at_call windowed_here large near_here few (flat_at t) (solitude t).memory holds.step base size (asks_here (Leave base size) asks) in
+          let inner = is_inner_task limits (solitude t).body at_call called_here (memory_at t) (solitude t).memory holds.step base size (asks_here (Leave base size) asks) in
           ap (λ b. if b then alone_behind (solitude t) (Leave base size) else solitude t) inner
       goes_on (Enter size) asks = refl
       goes_on Turn asks = refl
       goes_on (Load address width) asks = refl
       goes_on (Store address bytes) asks = refl
       goes_on (Out bytes) asks = absurd asks
+      goes_on In asks = absurd asks
+      goes_on (Malloc size) asks = absurd asks
       goes_on (Calls call) asks = absurd asks
       goes_on Returns asks = absurd asks
       goes_on Start asks = absurd asks
       goes_on Finish asks = absurd asks
       goes_on Barrier asks = absurd asks
       goes_on (Wait address) asks = absurd asks
+      goes_on WaitFault asks = absurd asks
+      goes_on DimFault asks = absurd asks
       goes_on (Fault kind) asks = absurd asks
       goes_on (End result) asks = absurd asks
 
@@ -124,13 +149,13 @@ module _ (limits : Limits) (uses : List Use) (inputs : List (List ℕ)) (place o
             place_is = holds.place_is;
             frames_are = ap (λ frames. frames_after frames action) holds.frames_are;
             machine = (asks_machine place (open_frames t) action asks, holds.machine);
-            step = step_after limits (solitude t).body limits.memory outer_calls at_call windowed_here large near_here few (flat_at t) (solitude t).memory holds.step action (asks_here action asks) none;
+            step = step_after limits (solitude t).body at_call called_here (memory_at t) (solitude t).memory holds.step action (asks_here action asks) none;
           })
 
       enters_at : (size line base : ℕ) → alone_world limits uses inputs place t (item (Enter size) line) ≡ Says base → base ≡ place - total (size ∷ open_frames t)
       enters_at size line base says =
           let at = entered_at (task_place (solitude t).memory) size base (first_broken (checks_of_task limits (solitude t).body (Enter size))) says in
-          let low = task_lowest (solitude t).body limits.memory outer_calls at_call windowed_here (omega (arith, large, near_here)) (flat_at t) (solitude t).memory holds.step in
+          let low = task_lowest (solitude t).body at_call called_here (memory_at t) (solitude t).memory holds.step in
           let framed : total (solitude t).body.frames ≡ total (open_frames t) = ap total holds.frames_are in
           omega (arith, at, low, holds.place_is, framed, total_more size (open_frames t))
 
@@ -138,9 +163,9 @@ module _ (limits : Limits) (uses : List Use) (inputs : List (List ℕ)) (place o
     pub known_at_return : (t : Tape) → Holds t → (line value : ℕ) → alone_world limits uses inputs place t (item Returns line) ≡ Says value → (a : ℕ) → IsWindowed uses a → is_unwritten (solitude t).body a ≡ false
     known_at_return t holds line value says a held =
         let none = not_refused (first_broken (checks_of_task limits (solitude t).body Returns)) (Says 0) value says in
-        returned_known limits (solitude t).body limits.memory outer_calls at_call (windowed_here t holds) large (near_here t holds) few (flat_at t) (solitude t).memory holds.step none a (ap (λ us. is_windowed us a) holds.uses_are ∙ held)
+        returned_known limits (solitude t).body at_call (called_here t holds) (memory_at t) (solitude t).memory holds.step none a (ap (λ us. is_windowed us a) holds.uses_are ∙ held)
 
-    pub worlds_alike : AreAlike (judged_in limits) (alone_world limits uses inputs place) tape place Holds
+    pub worlds_alike : AreAlike (judged_in limits start) (alone_world limits uses inputs place) tape place Holds
     worlds_alike = record {
       same = λ t action line holds asks. replies_same t holds action line asks;
       later = λ t action line value holds asks says. holds_later t holds action line value asks says;

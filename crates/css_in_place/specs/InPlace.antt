@@ -5,7 +5,7 @@ use Rattle.css_base.specs.Limits.{IsInRange}
 use Rattle.css_semantics.specs.Dialogue.{Action, Calls, Returns, Tape, World, Outcome, Goes, Stops, item, then_do}
 use Rattle.css_semantics.specs.Actions.{Boundary, BodyBegins, BodyEnds, NoBoundary, boundary_of}
 use Rattle.css_semantics.specs.Memory.{Memory, stack_place, memory_after}
-use Rattle.css_semantics.specs.Flat.{no_frames}
+use Rattle.css_semantics.specs.Flat.{FlatState, IsStart}
 use Rattle.css_semantics.specs.Tasks.{Use, use_of, writes, body}
 use Rattle.css_semantics.specs.Worlds.{AreOfMachine}
 use Rattle.css_semantics.specs.Rules.{main_stack, hit}
@@ -37,7 +37,7 @@ abbrev pub IsWithin : Memory → Type 0
 IsWithin m = (length m.stack ≤ main_stack.bytes) × (m.calls ≤ main_stack.calls)
 
 -- The newest item is main's call of a task, which breaks no rule. The stack, whose place is the call's, is within main's limits.
-pub record IsAtCall (code : Code) (limits : Limits) (tape : Tape) (k : ℕ) (arguments : List ℕ) (line : ℕ) (uses : List Use) (place : ℕ) : Type 0 where
+pub record IsAtCall (code : Code) (limits : Limits) (start : FlatState) (tape : Tape) (k : ℕ) (arguments : List ℕ) (line : ℕ) (uses : List Use) (place : ℕ) : Type 0 where
   pub routine : Routine
   pub shape : Shape
   pub dimensions : List ℕ
@@ -48,25 +48,26 @@ pub record IsAtCall (code : Code) (limits : Limits) (tape : Tape) (k : ℕ) (arg
   pub counts : length arguments ≡ length routine.parameters
   pub uses_are : uses ≡ map use_of (call_of k routine shape arguments dimensions place).arguments
   pub by_main : body before ≡ None
-  pub allowed : hit (no_frames limits.memory) limits before (Calls (call_of k routine shape arguments dimensions place)) ≡ None
+  pub allowed : hit start.memory limits before (Calls (call_of k routine shape arguments dimensions place)) ≡ None
   pub in_range : IsInRange limits
-  pub within : IsWithin (memory_after (no_frames limits.memory) tape)
-  pub place_is : place ≡ stack_place (memory_after (no_frames limits.memory) tape)
+  pub starts : IsStart limits.memory start
+  pub within : IsWithin (memory_after start.memory tape)
+  pub place_is : place ≡ stack_place (memory_after start.memory tape)
 
 -- what main asks is a call of a task, of which `IsAtCall` holds with some arguments, or it is none
-abbrev pub IsPlacedAt : Code → Limits → Boundary → (line : ℕ) → (before : Tape) → Type 0
-IsPlacedAt code limits (BodyBegins call) line before =
-    (arguments : List ℕ) × IsAtCall code limits (item (Calls call) line ∷ before) call.function arguments line (map use_of call.arguments) call.stack_place
-IsPlacedAt code limits BodyEnds line before = Unit {0}
-IsPlacedAt code limits NoBoundary line before = Unit {0}
+abbrev pub IsPlacedAt : Code → Limits → (start : FlatState) → Boundary → (line : ℕ) → (before : Tape) → Type 0
+IsPlacedAt code limits start (BodyBegins call) line before =
+    (arguments : List ℕ) × IsAtCall code limits start (item (Calls call) line ∷ before) call.function arguments line (map use_of call.arguments) call.stack_place
+IsPlacedAt code limits start BodyEnds line before = Unit {0}
+IsPlacedAt code limits start NoBoundary line before = Unit {0}
 
-abbrev pub IsPlaced : Code → Limits → Action → (line : ℕ) → (before : Tape) → Type 0
-IsPlaced code limits action line before = IsPlacedAt code limits (boundary_of action) line before
+abbrev pub IsPlaced : Code → Limits → (start : FlatState) → Action → (line : ℕ) → (before : Tape) → Type 0
+IsPlaced code limits start action line before = IsPlacedAt code limits start (boundary_of action) line before
 
 -- all calls of tasks on a tape
-abbrev pub ArePlaced : Code → Limits → Tape → Type 0
-ArePlaced code limits [] = Unit {0}
-ArePlaced code limits (i ∷ before) = IsPlaced code limits i.action i.line before × ArePlaced code limits before
+abbrev pub ArePlaced : Code → Limits → (start : FlatState) → Tape → Type 0
+ArePlaced code limits start [] = Unit {0}
+ArePlaced code limits start (i ∷ before) = IsPlaced code limits start i.action i.line before × ArePlaced code limits start before
 
 -- what the windows hold that are read
 abbrev pub inputs_at : Memory → List Use → List (List ℕ)
@@ -82,22 +83,22 @@ written_back m (u ∷ uses) (bytes ∷ outs) =
     else written_back m uses (bytes ∷ outs)
 
 -- At a call, the body in the flat memory has the dialogue of the task by itself over what its windows hold.
-abbrev pub SpeaksAlike : Code → Limits → Tape → (k : ℕ) → (arguments : List ℕ) → (line : ℕ) → (uses : List Use) → (place : ℕ) → Type 0
-SpeaksAlike code limits tape k arguments line uses place =
-    (n : ℕ) → alone_from (judged_in limits) code k arguments line n tape
-    ≡ behind (alone (alone_world limits uses (inputs_at (memory_after (no_frames limits.memory) tape) uses) place) code k arguments line n) tape
+abbrev pub SpeaksAlike : Code → Limits → (start : FlatState) → Tape → (k : ℕ) → (arguments : List ℕ) → (line : ℕ) → (uses : List Use) → (place : ℕ) → Type 0
+SpeaksAlike code limits start tape k arguments line uses place =
+    (n : ℕ) → alone_from (judged_in limits start) code k arguments line n tape
+    ≡ behind (alone (alone_world limits uses (inputs_at (memory_after start.memory tape) uses) place) code k arguments line n) tape
 
 -- Where the task by itself returns, the flat memory behind its body is as it was, but for the windows that it writes, which have the
 -- task's outs.
-abbrev pub LeavesAlike : Code → Limits → Tape → (k : ℕ) → (arguments : List ℕ) → (line : ℕ) → (uses : List Use) → (place : ℕ) → Type 0
-LeavesAlike code limits tape k arguments line uses place =
+abbrev pub LeavesAlike : Code → Limits → (start : FlatState) → Tape → (k : ℕ) → (arguments : List ℕ) → (line : ℕ) → (uses : List Use) → (place : ℕ) → Type 0
+LeavesAlike code limits start tape k arguments line uses place =
     (n cell : ℕ) (t : Tape)
-    → alone (alone_world limits uses (inputs_at (memory_after (no_frames limits.memory) tape) uses) place) code k arguments line n ≡ Goes (Some cell) t
-    → memory_after (no_frames limits.memory) (t ++ tape)
-    ≡ written_back (memory_after (no_frames limits.memory) tape) uses (outs_after uses (inputs_at (memory_after (no_frames limits.memory) tape) uses) place t)
+    → alone (alone_world limits uses (inputs_at (memory_after start.memory tape) uses) place) code k arguments line n ≡ Goes (Some cell) t
+    → memory_after start.memory (t ++ tape)
+    ≡ written_back (memory_after start.memory tape) uses (outs_after uses (inputs_at (memory_after start.memory tape) uses) place t)
 
 -- at a call, the body runs in the flat memory as the task does by itself
-pub record RunsAlike (code : Code) (limits : Limits) (tape : Tape) (k : ℕ) (arguments : List ℕ) (line : ℕ) (uses : List Use) (place : ℕ) : Type 0 where
-  pub dialogue : SpeaksAlike code limits tape k arguments line uses place
-  pub memory : LeavesAlike code limits tape k arguments line uses place
-  pub tape_is : (n : ℕ) → IsBodyTape (alone (alone_world limits uses (inputs_at (memory_after (no_frames limits.memory) tape) uses) place) code k arguments line n)
+pub record RunsAlike (code : Code) (limits : Limits) (start : FlatState) (tape : Tape) (k : ℕ) (arguments : List ℕ) (line : ℕ) (uses : List Use) (place : ℕ) : Type 0 where
+  pub dialogue : SpeaksAlike code limits start tape k arguments line uses place
+  pub memory : LeavesAlike code limits start tape k arguments line uses place
+  pub tape_is : (n : ℕ) → IsBodyTape (alone (alone_world limits uses (inputs_at (memory_after start.memory tape) uses) place) code k arguments line n)

@@ -1,7 +1,7 @@
 -- A store near no pending object.
 use Rattle.std.proofs.Common.{◌≡◌, ℕ, false, List, length, All, ap, sym, subst, ◌∙◌}
 use Rattle.css_semantics.specs.Dialogue.{Store}
-use Rattle.css_semantics.specs.Flat.{reply_in}
+use Rattle.css_semantics.specs.Flat.{memory_reply}
 use Rattle.css_semantics.specs.Memory.{Memory, after}
 use Rattle.css_semantics.specs.Pending.{Object, some_from}
 use Rattle.css_semantics.specs.Rules.{meets}
@@ -16,10 +16,10 @@ module _ (m : Memory) (objects : List Object) (s : Judged) (view : (let t : Judg
   far_from = subst (λ (n : ℕ). All (λ o. some_from (has_byte o.window) address n ≡ false) objects) long far
 
   -- the memory replies
-  pub far_reply : main_reply s (Store address bytes) ≡ reply_in m (Store address bytes)
+  pub far_reply : main_reply s (Store address bytes) ≡ memory_reply m (Store address bytes)
   far_reply =
       ap (λ (s : Judged). main_reply s (Store address bytes)) (sym view)
-      ∙ is_reply (meets (λ o. o.is_written) objects address (length bytes)) (reply_in m (Store address bytes)) (none_met (λ o. o.is_written) objects address (length bytes) far_from)
+      ∙ is_reply (meets (λ o. o.is_written) objects address (length bytes)) (memory_reply m (Store address bytes)) (none_met (λ o. o.is_written) objects address (length bytes) far_from)
 
   -- all objects stay
   pub far_after : (let t : Judged = record { memory = erased (after m (Store address bytes)); objects = objects } in t) ≡ main_after s (Store address bytes)

@@ -5,7 +5,7 @@ use Rattle.std.proofs.lemmas.Bool.Decides.{nat_tests}
 use Rattle.css_base.specs.declared.rule.Rule.TheVariants as rules
 use Rattle.css_semantics.specs.Dialogue.{Enter, Load, Store, Reply}
 use Rattle.css_semantics.specs.Memory.{Memory, stack_place, is_live, stored, after}
-use Rattle.css_semantics.specs.Flat.{has_room, reply_in}
+use Rattle.css_semantics.specs.Flat.{has_room, memory_reply}
 use Rattle.css_semantics.specs.Pending.{Object}
 use Rattle.css_semantics.specs.WithWindow.{with_rows}
 use Rattle.css_semantics.specs.Rules.{check, meets, first_broken, judged_reply, is_main_too_deep}
@@ -24,8 +24,8 @@ is_reply false reply none = refl
 
 -- where no task may write what is loaded, the memory replies
 pub load_is : (m : Memory) (objects : List Object) (address count : ℕ) → meets (λ o. o.is_written) objects address count ≡ false
-    → main_reply (record { memory = erased m; objects = objects }) (Load address count) ≡ reply_in m (Load address count)
-load_is m objects address count none = is_reply (meets (λ o. o.is_written) objects address count) (reply_in m (Load address count)) none
+    → main_reply (record { memory = erased m; objects = objects }) (Load address count) ≡ memory_reply m (Load address count)
+load_is m objects address count none = is_reply (meets (λ o. o.is_written) objects address count) (memory_reply m (Load address count)) none
 
 -- ---- entries
 

@@ -5,88 +5,19 @@ use Rattle.css_base.specs.declared.limits.Limits.{Limits}
 use Rattle.css_base.specs.Limits.{IsInRange}
 use Rattle.css_base.specs.declared.rule.Rule.{Rule}
 use Rattle.css_base.specs.declared.rule.Rule.TheVariants as rules
-use Rattle.css_semantics.specs.Dialogue.{Action, Enter, Turn, Leave, Load, Store, Out, Calls, Returns, Start, Finish, Barrier, Wait, Fault, End, Call, Item, Tape, Reply, Says, Refuses, item}
+use Rattle.css_semantics.specs.Dialogue.{Action, Enter, Turn, Leave, Load, Store, Out, In, Malloc, Calls, Returns, Start, Finish, Barrier, Wait, WaitFault, DimFault, Fault, End, Call, Item, Tape, Reply, Says, Refuses, item}
 use Rattle.css_semantics.specs.Worlds.{state_after, is_of_machine, is_fault, AreOfMachine, Follows}
 use Rattle.css_semantics.specs.Memory.{Memory, heap_start, stack_place, is_live, overlaid, stored, after, memory_after}
-use Rattle.css_semantics.specs.Flat.{erased_stack, has_room, no_frames, reply_in}
+use Rattle.css_semantics.specs.Flat.{FlatState, erased_stack, has_room, reply_in, flat_at, IsStart}
 use Rattle.css_semantics.specs.Pending.{Object, with_argument, pending, pending_after}
 use Rattle.css_semantics.specs.Rules.{check, checks_of_main, checks_of_task, first_broken, judged_reply, is_main_too_deep}
 use Rattle.css_semantics.specs.Tasks.{Body, unit_of, body, body_after, is_started, main_units}
 use Rattle.css_semantics.specs.Units.{Metered, with_units, within, metered, spending}
 use Rattle.css_semantics.specs.Verdict.{judged_in}
 use Rattle.css_semantics.proofs.Following.{after_both}
+use Rattle.css_semantics.proofs.LaidOut.{laid_along}
 use Rattle.css_judged.specs.Judged.{Judged, broken_by_call, main_reply, main_after, is_call, is_of_body, AreOfBody, IsMainAt}
 use Rattle.css_judged.proofs.MainReplies.{room_behind}
-
--- ---- the memory's end and limit
-
-end_if : (live : Bool) (m : Memory) (address : ℕ) (bytes : List ℕ) → (if live then stored m address bytes else m).end ≡ m.end
-end_if true m address bytes = refl
-end_if false m address bytes = refl
-
-limit_if : (live : Bool) (m : Memory) (address : ℕ) (bytes : List ℕ) → (if live then stored m address bytes else m).limit ≡ m.limit
-limit_if true m address bytes = refl
-limit_if false m address bytes = refl
-
-same_end : (m : Memory) (action : Action) → (after m action).end ≡ m.end
-same_end m (Store address bytes) = end_if (is_live m address (length bytes)) m address bytes
-same_end m (Enter size) = refl
-same_end m (Leave base size) = refl
-same_end m _ = refl
-
-same_limit : (m : Memory) (action : Action) → (after m action).limit ≡ m.limit
-same_limit m (Store address bytes) = limit_if (is_live m address (length bytes)) m address bytes
-same_limit m (Enter size) = refl
-same_limit m (Leave base size) = refl
-same_limit m _ = refl
-
-end_along : (size : ℕ) (tape : Tape) → (memory_after (no_frames size) tape).end ≡ size
-end_along size [] = refl
-end_along size (i ∷ tape) = same_end (memory_after (no_frames size) tape) i.action ∙ end_along size tape
-
-limit_along : (size : ℕ) (tape : Tape) → (memory_after (no_frames size) tape).limit ≡ erased_stack
-limit_along size [] = refl
-limit_along size (i ∷ tape) = same_limit (memory_after (no_frames size) tape) i.action ∙ limit_along size tape
-
--- ---- there are no globals and no heap
-
-globals_if : (live : Bool) (m : Memory) (address : ℕ) (bytes : List ℕ) → m.globals ≡ [] → (if live then stored m address bytes else m).globals ≡ []
-globals_if true m address bytes none = ap (λ gs. overlaid 4096 gs address bytes) none
-globals_if false m address bytes none = none
-
-heap_if : (live : Bool) (m : Memory) (address : ℕ) (bytes : List ℕ) → m.heap ≡ [] → (if live then stored m address bytes else m).heap ≡ []
-heap_if true m address bytes none = ap (λ hs. overlaid (heap_start m) hs address bytes) none
-heap_if false m address bytes none = none
-
-no_globals : (m : Memory) (action : Action) → m.globals ≡ [] → (after m action).globals ≡ []
-no_globals m (Store address bytes) none = globals_if (is_live m address (length bytes)) m address bytes none
-no_globals m (Enter size) none = none
-no_globals m (Leave base size) none = none
-no_globals m _ none = none
-
-no_heap : (m : Memory) (action : Action) → m.heap ≡ [] → (after m action).heap ≡ []
-no_heap m (Store address bytes) none = heap_if (is_live m address (length bytes)) m address bytes none
-no_heap m (Enter size) none = none
-no_heap m (Leave base size) none = none
-no_heap m _ none = none
-
-globals_along : (size : ℕ) (tape : Tape) → (memory_after (no_frames size) tape).globals ≡ []
-globals_along size [] = refl
-globals_along size (i ∷ tape) = no_globals (memory_after (no_frames size) tape) i.action (globals_along size tape)
-
-heap_along : (size : ℕ) (tape : Tape) → (memory_after (no_frames size) tape).heap ≡ []
-heap_along size [] = refl
-heap_along size (i ∷ tape) = no_heap (memory_after (no_frames size) tape) i.action (heap_along size tape)
-
--- what main's memory has wherever main is
-pub memory_is : (limits : Limits) (tape : Tape) (s : Metered Judged) → IsMainAt limits tape s
-    → (s.state.memory.globals ≡ []) × (s.state.memory.heap ≡ []) × (s.state.memory.end ≡ limits.memory) × (s.state.memory.limit ≡ erased_stack)
-memory_is limits tape s at = (
-  ap (λ (m : Memory). m.globals) at.memory ∙ globals_along limits.memory tape,
-  ap (λ (m : Memory). m.heap) at.memory ∙ heap_along limits.memory tape,
-  ap (λ (m : Memory). m.end) at.memory ∙ end_along limits.memory tape,
-  ap (λ (m : Memory). m.limit) at.memory ∙ limit_along limits.memory tape,
-)
 
 -- ---- main goes on
 
@@ -111,8 +42,8 @@ units_spent s Turn = refl
 units_spent s _ = omega arith
 
 -- behind what main does that isn't a call
-pub acts : (limits : Limits) (tape : Tape) (s : Metered Judged) (i : Item) → is_call i.action ≡ false → IsMainAt limits tape s → IsMainAt limits (i ∷ tape) (spending main_after s i.action)
-acts limits tape s i none at = record {
+pub acts : (limits : Limits) (start : FlatState) (tape : Tape) (s : Metered Judged) (i : Item) → is_call i.action ≡ false → IsMainAt limits start tape s → IsMainAt limits start (i ∷ tape) (spending main_after s i.action)
+acts limits start tape s i none at = record {
   by_main = ap (λ o. body_after o i.action) at.by_main ∙ by_main_behind i.action none;
   memory = memory_spent s i.action ∙ ap (λ (m : Memory). after m i.action) at.memory;
   objects = objects_spent s i.action ∙ ap (λ objects. pending_after true objects i.action) at.objects
@@ -128,10 +59,10 @@ no_call (Calls call) machine = absurd (cc)
 no_call _ machine = refl
 
 -- behind what a machine adds
-pub stays : (limits : Limits) (tape : Tape) (s : Metered Judged) (more : Tape) → IsMainAt limits tape s → AreOfMachine more → IsMainAt limits (more ++ tape) (state_after (spending main_after) s more)
-stays limits tape s [] at machine = at
-stays limits tape s (i ∷ more) at machine =
-    acts limits (more ++ tape) (state_after (spending main_after) s more) i (no_call i.action machine.0) (stays limits tape s more at machine.1)
+pub stays : (limits : Limits) (start : FlatState) (tape : Tape) (s : Metered Judged) (more : Tape) → IsMainAt limits start tape s → AreOfMachine more → IsMainAt limits start (more ++ tape) (state_after (spending main_after) s more)
+stays limits start tape s [] at machine = at
+stays limits start tape s (i ∷ more) at machine =
+    acts limits start (more ++ tape) (state_after (spending main_after) s more) i (no_call i.action machine.0) (stays limits tape s more at machine.1)
 
 -- ---- replies
 
@@ -167,20 +98,21 @@ hit_by m limits tape action o =
       | Some b ↦ first_broken (checks_of_task limits b action)
     ]
 
-module _ (limits : Limits) (in_range : IsInRange limits) (tape : Tape) (s : Metered Judged) (at : IsMainAt limits tape s) where
+module _ (limits : Limits) (start : FlatState) (in_range : IsInRange limits) (starts : IsStart limits.memory start) (tape : Tape) (s : Metered Judged) (at : IsMainAt limits start tape s) where
   abbrev now : Memory
-  now = memory_after (no_frames limits.memory) tape
+  now = memory_after start.memory tape
 
   room_now : (size : ℕ) → is_main_too_deep now (Enter size) ≡ false → has_room now size ≡ true
   room_now size shallow =
-      let large : 2097152 ≤ now.end = omega (arith, in_range.memory.0, end_along limits.memory tape) in
-      ap (λ limit. has_room (record now { limit = limit }) size) (limit_along limits.memory tape) ∙ room_behind now size large shallow
+      let laid = laid_along limits.memory start.memory tape starts.laid_out in
+      let large : 2097152 ≤ now.end = omega (arith, in_range.memory.0, laid.end) in
+      ap (λ limit. has_room (record now { limit = limit }) size) laid.limit ∙ room_behind now size large shallow
 
   same_answer : (action : Action) → answer now (pending tape) action ≡ main_reply s.state action
   same_answer action =
       ap (λ (m : Memory). answer m (pending tape) action) (sym at.memory) ∙ ap (λ objects. answer s.state.memory objects action) (sym at.objects)
 
-  by_rules : (action : Action) → IsTrue (is_of_machine action) → judged_reply (first_broken (checks_of_main now limits tape action)) (reply_in now action) ≡ metered main_reply s action
+  by_rules : (action : Action) → IsTrue (is_of_machine action) → judged_reply (first_broken (checks_of_main now limits tape action)) (reply_in (flat_at start tape) action) ≡ metered main_reply s action
   by_rules (Enter size) asked =
       unit_reply (is_main_too_deep now (Enter size)) (has_room now size) limits.main_units (main_units tape) (stack_place now - size) (room_now size) s.units at.units
       ∙ ap (within s.units) (same_answer (Enter size))
@@ -189,50 +121,54 @@ module _ (limits : Limits) (in_range : IsInRange limits) (tape : Tape) (s : Mete
   by_rules (Load address width) asked = same_answer (Load address width)
   by_rules (Store address bytes) asked = same_answer (Store address bytes)
   by_rules (Out bytes) asked = absurd (cc)
+  by_rules In asked = absurd (cc)
+  by_rules (Malloc size) asked = absurd (cc)
   by_rules (Calls call) asked = absurd (cc)
   by_rules Returns asked = absurd (cc)
   by_rules Start asked = absurd (cc)
   by_rules Finish asked = absurd (cc)
   by_rules Barrier asked = absurd (cc)
   by_rules (Wait address) asked = absurd (cc)
+  by_rules WaitFault asked = absurd (cc)
+  by_rules DimFault asked = absurd (cc)
   by_rules (Fault kind) asked = absurd (cc)
   by_rules (End result) asked = absurd (cc)
 
-  same_reply : (i : Item) → IsTrue (is_of_machine i.action) → judged_in limits tape i ≡ metered main_reply s i.action
+  same_reply : (i : Item) → IsTrue (is_of_machine i.action) → judged_in limits start tape i ≡ metered main_reply s i.action
   same_reply i asked =
-      ap (λ o. judged_reply (hit_by now limits tape i.action o) (reply_in now i.action)) at.by_main ∙ by_rules i.action asked
+      ap (λ o. judged_reply (hit_by now limits tape i.action o) (reply_in (flat_at start tape) i.action)) at.by_main ∙ by_rules i.action asked
 
 -- the judged world replies to a machine as main's memory does
-pub follows : (limits : Limits) (tape : Tape) (s : Metered Judged) → IsInRange limits → IsMainAt limits tape s → Follows (judged_in limits) (metered main_reply) (spending main_after) tape s
-follows limits tape s in_range at = record {
+pub follows : (limits : Limits) (start : FlatState) (tape : Tape) (s : Metered Judged) → IsInRange limits → IsStart limits.memory start → IsMainAt limits start tape s → Follows (judged_in limits start) (metered main_reply) (spending main_after) tape s
+follows limits start tape s in_range starts at = record {
   replies = λ more i machine asked.
-      same_reply limits in_range (more ++ tape) (state_after (spending main_after) s more) (stays limits tape s more at machine) i asked;
+      same_reply limits start in_range starts (more ++ tape) (state_after (spending main_after) s more) (stays limits start tape s more at machine) i asked;
 }
 
 -- ---- what main asks itself
 
-module _ (limits : Limits) (tape : Tape) (s : Metered Judged) (at : IsMainAt limits tape s) (line : ℕ) where
-  judged_by : (action : Action) → judged_in limits tape (item action line)
-      ≡ judged_reply (first_broken (checks_of_main (memory_after (no_frames limits.memory) tape) limits tape action)) (reply_in (memory_after (no_frames limits.memory) tape) action)
+module _ (limits : Limits) (start : FlatState) (tape : Tape) (s : Metered Judged) (at : IsMainAt limits start tape s) (line : ℕ) where
+  judged_by : (action : Action) → judged_in limits start tape (item action line)
+      ≡ judged_reply (first_broken (checks_of_main (memory_after start.memory tape) limits tape action)) (reply_in (flat_at start tape) action)
   judged_by action =
-      ap (λ o. judged_reply (hit_by (memory_after (no_frames limits.memory) tape) limits tape action o) (reply_in (memory_after (no_frames limits.memory) tape) action)) at.by_main
+      ap (λ o. judged_reply (hit_by (memory_after start.memory tape) limits tape action o) (reply_in (flat_at start tape) action)) at.by_main
 
-  pub asks_out : (bytes : List ℕ) → judged_in limits tape (item (Out bytes) line) ≡ Says (length bytes)
+  pub asks_out : (bytes : List ℕ) → judged_in limits start tape (item (Out bytes) line) ≡ Says (length bytes)
   asks_out bytes = judged_by (Out bytes)
 
-  pub asks_start : judged_in limits tape (item Start line) ≡ (if is_started tape then Refuses rules.StartTwice else Says 0)
+  pub asks_start : judged_in limits start tape (item Start line) ≡ (if is_started tape then Refuses rules.StartTwice else Says 0)
   asks_start = judged_by Start ∙ start_reply (is_started tape)
 
-  pub asks_finish : judged_in limits tape (item Finish line) ≡ (if is_started tape then Says 0 else Refuses rules.FinishWithout)
+  pub asks_finish : judged_in limits start tape (item Finish line) ≡ (if is_started tape then Says 0 else Refuses rules.FinishWithout)
   asks_finish = judged_by Finish ∙ finish_reply (is_started tape)
 
-  pub asks_barrier : judged_in limits tape (item Barrier line) ≡ Says 0
+  pub asks_barrier : judged_in limits start tape (item Barrier line) ≡ Says 0
   asks_barrier = judged_by Barrier
 
-  pub asks_end : (result : ℤ) → judged_in limits tape (item (End result) line) ≡ Says 0
+  pub asks_end : (result : ℤ) → judged_in limits start tape (item (End result) line) ≡ Says 0
   asks_end result = judged_by (End result)
 
-  pub asks_call : (call : Call) → judged_in limits tape (item (Calls call) line) ≡ judged_reply (broken_by_call limits s.state call.arguments) (Says 1)
+  pub asks_call : (call : Call) → judged_in limits start tape (item (Calls call) line) ≡ judged_reply (broken_by_call limits s.state call.arguments) (Says 1)
   asks_call call =
       judged_by (Calls call)
       ∙ ap (λ (m : Memory). judged_reply (broken_by_call limits (record { memory = m; objects = pending tape }) call.arguments) (Says 1)) (sym at.memory)
@@ -273,6 +209,8 @@ pending_behind objects (Leave base size) of_body = refl
 pending_behind objects (Load address width) of_body = refl
 pending_behind objects (Store address bytes) of_body = refl
 pending_behind objects (Out bytes) of_body = refl
+pending_behind objects In of_body = refl
+pending_behind objects (Malloc size) of_body = refl
 pending_behind objects (Fault kind) of_body = refl
 pending_behind objects _ of_body = absurd (cc)
 
@@ -287,10 +225,10 @@ in_task before (i ∷ more) inside of_body =
     }
 
 -- behind a whole call of a task, where the memory is this
-pub calls : (limits : Limits) (tape : Tape) (s : Metered Judged) (call : Call) (called returned : ℕ) (more : Tape) (m : Memory) → IsMainAt limits tape s → AreOfBody more
-    → m ≡ memory_after (no_frames limits.memory) (item Returns returned ∷ (more ++ item (Calls call) called ∷ tape))
-    → IsMainAt limits (item Returns returned ∷ (more ++ item (Calls call) called ∷ tape)) (with_units (record { memory = m; objects = fold with_argument s.state.objects call.arguments }) s.units)
-calls limits tape s call called returned more m at of_body is =
+pub calls : (limits : Limits) (start : FlatState) (tape : Tape) (s : Metered Judged) (call : Call) (called returned : ℕ) (more : Tape) (m : Memory) → IsMainAt limits start tape s → AreOfBody more
+    → m ≡ memory_after start.memory (item Returns returned ∷ (more ++ item (Calls call) called ∷ tape))
+    → IsMainAt limits start (item Returns returned ∷ (more ++ item (Calls call) called ∷ tape)) (with_units (record { memory = m; objects = fold with_argument s.state.objects call.arguments }) s.units)
+calls limits start tape s call called returned more m at of_body is =
     let before : Tape = item (Calls call) called ∷ tape in
     let rest = in_task before more refl of_body in
     let here : pending before ≡ fold with_argument s.state.objects call.arguments =
@@ -307,7 +245,7 @@ calls limits tape s call called returned more m at of_body is =
     }
 
 -- the memory behind a whole call is what the body makes of it
-pub called_memory : (limits : Limits) (tape : Tape) (s : Metered Judged) (call : Call) (called returned : ℕ) (more : Tape) → IsMainAt limits tape s
-    → memory_after (no_frames limits.memory) (item Returns returned ∷ (more ++ item (Calls call) called ∷ tape)) ≡ memory_after s.state.memory more
-called_memory limits tape s call called returned more at =
-    after_both after (no_frames limits.memory) more (item (Calls call) called ∷ tape) ∙ ap (λ (m : Memory). memory_after m more) (sym at.memory)
+pub called_memory : (limits : Limits) (start : FlatState) (tape : Tape) (s : Metered Judged) (call : Call) (called returned : ℕ) (more : Tape) → IsMainAt limits start tape s
+    → memory_after start.memory (item Returns returned ∷ (more ++ item (Calls call) called ∷ tape)) ≡ memory_after s.state.memory more
+called_memory limits start tape s call called returned more at =
+    after_both after start.memory more (item (Calls call) called ∷ tape) ∙ ap (λ (m : Memory). memory_after m more) (sym at.memory)

@@ -5,9 +5,9 @@ use Rattle.css_base.specs.declared.direction.Direction.TheVariants.{InOut}
 use Rattle.css_base.specs.declared.limits.Limits.{Limits}
 use Rattle.css_base.specs.declared.rule.Rule.{Rule}
 use Rattle.css_base.specs.declared.rule.Rule.TheVariants as rules
-use Rattle.css_semantics.specs.Dialogue.{Action, Enter, Turn, Leave, Load, Store, Out, Calls, Returns, Start, Finish, Barrier, Wait, Fault, End, Argument, Reply, Tape}
+use Rattle.css_semantics.specs.Dialogue.{Action, Enter, Turn, Leave, Load, Store, Out, In, Malloc, Calls, Returns, Start, Finish, Barrier, Wait, WaitFault, DimFault, Fault, End, Argument, Reply, Tape}
 use Rattle.css_semantics.specs.Actions.{Boundary, BodyBegins, BodyEnds, NoBoundary, boundary_of}
-use Rattle.css_semantics.specs.Flat.{erased_stack, no_frames, reply_in}
+use Rattle.css_semantics.specs.Flat.{FlatState, erased_stack, memory_reply}
 use Rattle.css_semantics.specs.Memory.{Memory, is_live_byte, stack_place, after, memory_after}
 use Rattle.css_semantics.specs.Pending.{Object, pending, pending_after}
 use Rattle.css_semantics.specs.Rules.{Check, check, main_stack, first_broken, judged_reply, is_unsynchronised, is_main_too_deep, has_bad_dimension, room_of, all_of_window, overlaps_partly, has_alias}
@@ -28,7 +28,7 @@ memory_checks s action =
 
 -- the reply to an action, without units
 abbrev pub main_reply : Judged → Action → Reply
-main_reply s action = judged_reply (first_broken (memory_checks s action)) (reply_in s.memory action)
+main_reply s action = judged_reply (first_broken (memory_checks s action)) (memory_reply s.memory action)
 
 -- what an action of main does
 abbrev pub main_after : Judged → Action → Judged
@@ -89,12 +89,16 @@ is_of_body (Leave base size) = true
 is_of_body (Load address width) = true
 is_of_body (Store address bytes) = true
 is_of_body (Out bytes) = true
+is_of_body In = false
+is_of_body (Malloc size) = false
 is_of_body (Calls call) = false
 is_of_body Returns = false
 is_of_body Start = false
 is_of_body Finish = false
 is_of_body Barrier = false
 is_of_body (Wait address) = false
+is_of_body WaitFault = false
+is_of_body DimFault = false
 is_of_body (Fault kind) = true
 is_of_body (End result) = false
 
@@ -105,9 +109,9 @@ AreOfBody (i ∷ tape) = IsTrue (is_of_body i.action) × AreOfBody tape
 
 -- ---- where main is
 
--- Main is at this tape: no task's body runs; its memory, what is pending and the units that are left are these.
-pub record IsMainAt (limits : Limits) (tape : Tape) (s : Metered Judged) : Type 0 where
+-- Main is at this tape, from a start: no task's body runs; its memory, what is pending and the units that are left are these.
+pub record IsMainAt (limits : Limits) (start : FlatState) (tape : Tape) (s : Metered Judged) : Type 0 where
   pub by_main : body tape ≡ None
-  pub memory : s.state.memory ≡ memory_after (no_frames limits.memory) tape
+  pub memory : s.state.memory ≡ memory_after start.memory tape
   pub objects : s.state.objects ≡ pending tape
   pub units : s.units ≡ limits.main_units - main_units tape

@@ -1,7 +1,7 @@
 //! Main's memory under the rules on main.
 ghost use Rattle.std.specs.Prelude.{◌≡◌, ◌≤◌, ℕ, [], ◌∷◌, true, length, IfOk, IfErr, OnOk, OnErr, None, Some};
 ghost use Rattle.css_base.specs.Limits.{IsInRange};
-ghost use Rattle.css_semantics.specs.Flat.{no_frames};
+ghost use Rattle.css_semantics.specs.Flat.{no_globals};
 ghost use Rattle.css_semantics.specs.Dialogue.{Store, Says};
 ghost use Rattle.css_semantics.specs.Memory.{is_live_byte, big_endian_bytes};
 ghost use Rattle.css_semantics.specs.Pending.{with_argument};
@@ -44,7 +44,7 @@ impl JudgedMemory {
     /// A memory of the limits' bytes before main's entry, with nothing pending. Takes the memory's bytes here.
     pub fn new(alloc: Global, limits: &Limits) -> Result<JudgedMemory, NoMemory>
         requires { IsInRange limits.now }
-        ensures { IfOk result (λ s. s ≡ record { memory = no_frames limits.now.memory; objects = [] }) }
+        ensures { IfOk result (λ s. s ≡ record { memory = (no_globals limits.now.memory).memory; objects = [] }) }
     {
         let memory = MainMemory::new(alloc, limits.memory, false)?;
         Ok(JudgedMemory {

@@ -7,6 +7,7 @@ use Rattle.css_base.specs.declared.ending.Stop.{Stop}
 use Rattle.css_base.specs.declared.ending.Who.TheVariants.{Main}
 use Rattle.css_io.specs.Changes.{Change}
 use Rattle.css_judged.specs.Judged.{Judged, main_reply, main_after, main_place}
+use Rattle.css_semantics.specs.Flat.{FlatState, IsStart}
 use Rattle.css_semantics.specs.Memory.{Memory, stack_place, stored}
 use Rattle.css_semantics.specs.WithWindow.{with_rows}
 use Rattle.css_semantics.proofs.StackPlaces.{length-overlaid}
@@ -44,7 +45,7 @@ pub on_some : {A : Type 0} {P Q : A → Type 0} (o : Option A) → ((a : A) → 
 on_some (Some a) go h = go a h
 on_some None go h = tt
 
-module _ (limits : Limits) (code : Code) (in_range : IsInRange limits) (old : Side) (machine : State) (space : Metered Judged) where
+module _ (limits : Limits) (start : FlatState) (code : Code) (in_range : IsInRange limits) (starts : IsStart limits.memory start) (old : Side) (machine : State) (space : Metered Judged) where
   abbrev mid : Side
   mid = at_event old machine space
 
@@ -52,16 +53,16 @@ module _ (limits : Limits) (code : Code) (in_range : IsInRange limits) (old : Si
   Comes e = Reaches (metered main_reply) (spending main_after) code old.machine old.space e machine space
 
   abbrev There : Event → Type 0
-  There e = (st : Stands limits old) → ToEvent limits code e old mid st
+  There e = (st : Stands limits start old) → ToEvent limits start code e old mid st
 
   there : (e : Event) → (r : Comes e) → r.end ≡ space → There e
-  there e r is st = to_event limits code in_range old machine space st e r is
+  there e r is st = to_event limits start code in_range starts old machine space st e r is
 
-  pub stands_there : (e : Event) → (r : Comes e) → r.end ≡ space → Stands limits old → Stands limits mid
+  pub stands_there : (e : Event) → (r : Comes e) → r.end ≡ space → Stands limits start old → Stands limits start mid
   stands_there e r is st = (there e r is st).there
 
   abbrev MovesTo : Side → List ℕ → Type 0
-  MovesTo new bytes = (st : Stands limits old) → Moves limits code old new bytes st
+  MovesTo new bytes = (st : Stands limits start old) → Moves limits start code old new bytes st
 
   to_new : (a new : Side) (bytes : List ℕ) → new ≡ a → MovesTo a bytes → MovesTo new bytes
   to_new a new bytes is moves = subst (λ x. MovesTo x bytes) (sym is) moves
@@ -69,25 +70,25 @@ module _ (limits : Limits) (code : Code) (in_range : IsInRange limits) (old : Si
   -- an output
   pub out_moves : (bytes : List ℕ) (new : Side) → Comes (events.Out bytes) → new ≡ with_answer (length bytes) mid → MovesTo new bytes
   out_moves bytes new r is =
-      to_new (with_answer (length bytes) mid) new bytes is (λ st. at_out limits code in_range old machine space st mid bytes (there (events.Out bytes) r r.is_left st))
+      to_new (with_answer (length bytes) mid) new bytes is (λ st. at_out limits start code in_range starts old machine space st mid bytes (there (events.Out bytes) r r.is_left st))
 
   -- a mark
   pub mark_moves : (kind : MarkKind) (line : ℕ) (new : Side) → Comes (events.Mark kind line) → Marked kind mid new → MovesTo new []
   mark_moves marks.Started line new r is =
-      to_new _ new [] is (λ st. at_question limits code in_range old machine space st mid line (there (events.Mark marks.Started line) r r.is_left st))
+      to_new _ new [] is (λ st. at_question limits start code in_range starts old machine space st mid line (there (events.Mark marks.Started line) r r.is_left st))
   mark_moves marks.Start line new r is =
-      to_new _ new [] is.1 (λ st. at_start limits code in_range old machine space st mid line (there (events.Mark marks.Start line) r r.is_left st) is.0)
+      to_new _ new [] is.1 (λ st. at_start limits start code in_range starts old machine space st mid line (there (events.Mark marks.Start line) r r.is_left st) is.0)
   mark_moves marks.Finish line new r is =
-      to_new _ new [] is.1 (λ st. at_finish limits code in_range old machine space st mid line (there (events.Mark marks.Finish line) r r.is_left st) is.0)
+      to_new _ new [] is.1 (λ st. at_finish limits start code in_range starts old machine space st mid line (there (events.Mark marks.Finish line) r r.is_left st) is.0)
   mark_moves marks.Barrier line new r is =
-      to_new _ new [] is (λ st. at_barrier limits code in_range old machine space st mid line (there (events.Mark marks.Barrier line) r r.is_left st))
+      to_new _ new [] is (λ st. at_barrier limits start code in_range starts old machine space st mid line (there (events.Mark marks.Barrier line) r r.is_left st))
 
-  pub mark_ends : (kind : MarkKind) (line : ℕ) (pending : List ℕ) (c : Change) (ran : Ran) → Comes (events.Mark kind line) → MarkEnds kind line mid pending c ran → EndsRun limits code old pending c ran
+  pub mark_ends : (kind : MarkKind) (line : ℕ) (pending : List ℕ) (c : Change) (ran : Ran) → Comes (events.Mark kind line) → MarkEnds kind line mid pending c ran → EndsRun limits start code old pending c ran
   mark_ends marks.Started line pending c ran r is = absurd is
   mark_ends marks.Start line pending c ran r is =
-      ends_so limits code old pending c ran _ (λ st. at_second_start limits code in_range old machine space st mid line (there (events.Mark marks.Start line) r r.is_left st) is.0) is.1
+      ends_so limits start code old pending c ran _ (λ st. at_second_start limits start code in_range starts old machine space st mid line (there (events.Mark marks.Start line) r r.is_left st) is.0) is.1
   mark_ends marks.Finish line pending c ran r is =
-      ends_so limits code old pending c ran _ (λ st. at_needless_finish limits code in_range old machine space st mid line (there (events.Mark marks.Finish line) r r.is_left st) is.0) is.1
+      ends_so limits start code old pending c ran _ (λ st. at_needless_finish limits start code in_range starts old machine space st mid line (there (events.Mark marks.Finish line) r r.is_left st) is.0) is.1
   mark_ends marks.Barrier line pending c ran r is = absurd is
 
   -- a mark that goes on leaves the machine at its place
@@ -99,26 +100,26 @@ module _ (limits : Limits) (code : Code) (in_range : IsInRange limits) (old : Si
 
   -- main's end
   pub end_ends : (value line : ℕ) (pending : List ℕ) (c : Change) (ran : Ran) → Comes (events.Ended value line) → base_of machine ≡ main_place space.state
-      → RanAs (left_with (reply_to_leaving code (finished_space old.is_started space.state)) value line) pending c ran → EndsRun limits code old pending c ran
+      → RanAs (left_with (reply_to_leaving code (finished_space old.is_started space.state)) value line) pending c ran → EndsRun limits start code old pending c ran
   end_ends value line pending c ran r place is =
-      ends_so limits code old pending c ran _ (λ st. at_end limits code in_range old mid st value line (there (events.Ended value line) r r.is_left st) place) is
+      ends_so limits start code old pending c ran _ (λ st. at_end limits start code in_range starts old mid st value line (there (events.Ended value line) r r.is_left st) place) is
 
-  pub stop_ends : (stop : Stop) (line : ℕ) (pending : List ℕ) (c : Change) (ran : Ran) → Comes (events.Stopped stop line) → RanAs (endings.Stopped stop line Main) pending c ran → EndsRun limits code old pending c ran
-  stop_ends stop line pending c ran r is = ends_so limits code old pending c ran _ (λ st. at_stop limits code in_range old machine space st stop line r) is
+  pub stop_ends : (stop : Stop) (line : ℕ) (pending : List ℕ) (c : Change) (ran : Ran) → Comes (events.Stopped stop line) → RanAs (endings.Stopped stop line Main) pending c ran → EndsRun limits start code old pending c ran
+  stop_ends stop line pending c ran r is = ends_so limits start code old pending c ran _ (λ st. at_stop limits start code in_range starts old machine space st stop line r) is
 
   -- ---- calls
 
   module _ (plans : List (List Spot)) (sound : IsSound code plans) (tasks : HasPlainTasks code) (s : Submitted) (r : Comes (events.Submit s)) (owed : IsOwed machine) where
     pub call_moves : (new : Side) → AnswersCall limits code s mid new → MovesTo new []
     call_moves new answers =
-        to_new (with_answer 0 answers.0) new [] answers.2 (λ st. at_return limits code plans sound tasks in_range old mid st s (there (events.Submit s) r r.is_left st) answers.0 owed answers.1)
+        to_new (with_answer 0 answers.0) new [] answers.2 (λ st. at_return limits start code plans sound tasks in_range starts old mid st s (there (events.Submit s) r r.is_left st) answers.0 owed answers.1)
 
-    pub call_ends : (pending : List ℕ) (c : Change) (ran : Ran) → CallEnds limits code s mid pending c ran → EndsRun limits code old pending c ran
+    pub call_ends : (pending : List ℕ) (c : Change) (ran : Ran) → CallEnds limits code s mid pending c ran → EndsRun limits start code old pending c ran
     call_ends pending c ran (Broken rule refused is) =
-        ends_so limits code old pending c ran _ (λ st. at_refusal limits code plans sound tasks in_range old mid st s (there (events.Submit s) r r.is_left st) rule refused) is
+        ends_so limits start code old pending c ran _ (λ st. at_refusal limits start code plans sound tasks in_range starts old mid st s (there (events.Submit s) r r.is_left st) rule refused) is
     call_ends pending c ran (Stops task stop line stops is) =
-        ends_so limits code old pending c ran _ (λ st. at_task_stop limits code plans sound tasks in_range old mid st s (there (events.Submit s) r r.is_left st) task stop line owed stops) is
-    call_ends pending c ran (Failed failed) = fails limits code old pending c ran failed
+        ends_so limits start code old pending c ran _ (λ st. at_task_stop limits start code plans sound tasks in_range starts old mid st s (there (events.Submit s) r r.is_left st) task stop line owed stops) is
+    call_ends pending c ran (Failed failed) = fails limits start code old pending c ran failed
 
   -- a call that goes on leaves the machine answered
   pub call_machine : (s : Submitted) (new : Side) → AnswersCall limits code s mid new → new.machine ≡ answered 0 machine

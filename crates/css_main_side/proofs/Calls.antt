@@ -23,7 +23,7 @@ use Rattle.css_record.specs.declared.task_record.TaskRecord.{TaskRecord}
 use Rattle.css_record.specs.Records as records
 use Rattle.css_semantics.specs.Dialogue.{Calls, Returns, Call, Tape, Reply, Says, Refuses, World, Outcome, Goes, Stops, Stopped, then_do, replied, ask, item, output}
 use Rattle.css_semantics.specs.Alone.{outs_after, alone_world}
-use Rattle.css_semantics.specs.Flat.{no_frames, in_memory}
+use Rattle.css_semantics.specs.Flat.{FlatState, in_memory, IsStart}
 use Rattle.css_semantics.specs.Memory.{Memory, memory_after, stack_place}
 use Rattle.css_semantics.specs.Pending.{with_argument}
 use Rattle.css_semantics.specs.WithWindow.{with_window}
@@ -68,8 +68,8 @@ none_broken : (o : Option Rule) (reply : Reply) (value : ℕ) → judged_reply o
 none_broken None reply value is = refl
 none_broken (Some rule) reply value is = absurd (cc)
 
-module _ (limits : Limits) (code : Code) (plans : List (List Spot)) (sound : IsSound code plans) (tasks : HasPlainTasks code) (in_range : IsInRange limits)
-    (side : Side) (st : Stands limits side) (s : Submitted) (base : ℕ) (to : PointsTo s base) (allowed : IsAllowed limits side base)
+module _ (limits : Limits) (start : FlatState) (code : Code) (plans : List (List Spot)) (sound : IsSound code plans) (tasks : HasPlainTasks code) (in_range : IsInRange limits) (starts : IsStart limits.memory start)
+    (side : Side) (st : Stands limits start side) (s : Submitted) (base : ℕ) (to : PointsTo s base) (allowed : IsAllowed limits side base)
     (f : Routine) (shape : Shape) (function : slice_get code.functions s.function ≡ Some f) (task : f.task ≡ Some shape) where
   abbrev place : ℕ
   place = base_of side.machine
@@ -87,18 +87,18 @@ module _ (limits : Limits) (code : Code) (plans : List (List Spot)) (sound : IsS
   at_call = item (Calls the_call) s.line ∷ st.so_far
 
   abbrev world : World
-  world = judged_in limits
+  world = judged_in limits start
 
   reply_is : world st.so_far (item (Calls the_call) s.line) ≡ Says 1
   reply_is =
-      asks_call limits st.so_far side.space st.at s.line the_call
+      asks_call limits start st.so_far side.space st.at s.line the_call
       ∙ ap (λ (c : Call). judged_reply (broken_by_call limits side.space.state c.arguments) (Says 1)) call_same
       ∙ ap (λ o. judged_reply o (Says 1)) allowed.none
 
-  memory_same : side.space.state.memory ≡ memory_after (no_frames limits.memory) st.so_far
+  memory_same : side.space.state.memory ≡ memory_after start.memory st.so_far
   memory_same = st.at.memory
 
-  pub in_call : IsAtCall code limits at_call s.function s.arguments.items s.line (map use_of the_call.arguments) place
+  pub in_call : IsAtCall code limits start at_call s.function s.arguments.items s.line (map use_of the_call.arguments) place
   in_call = record {
     routine = f;
     shape = shape;
@@ -110,8 +110,9 @@ module _ (limits : Limits) (code : Code) (plans : List (List Spot)) (sound : IsS
     counts = ap length to.argument ∙ sym (ap length is_plain.parameters);
     uses_are = refl;
     by_main = st.at.by_main;
-    allowed = none_broken (hit (no_frames limits.memory) limits st.so_far (Calls the_call)) (in_memory limits.memory st.so_far (item (Calls the_call) s.line)) 1 reply_is;
+    allowed = none_broken (hit start.memory limits st.so_far (Calls the_call)) (in_memory start st.so_far (item (Calls the_call) s.line)) 1 reply_is;
     in_range = in_range;
+    starts = starts;
     within = subst (λ (m : Memory). (length m.stack ≤ 1048576) × (m.calls ≤ 32768)) memory_same allowed.within;
     place_is = allowed.place ∙ ap stack_place memory_same;
   }
@@ -133,17 +134,17 @@ module _ (limits : Limits) (code : Code) (plans : List (List Spot)) (sound : IsS
     has_inputs : HasInputs shape r
     has_inputs = rw (of.inputs, uses_are) refl
 
-    pub fits : FitsAtCall code limits at_call shape r
+    pub fits : FitsAtCall code start at_call shape r
     unfolding in_call
-    fits = fits_at_call code plans sound limits at_call s.function s.arguments.items s.line (map use_of the_call.arguments) place in_call r of_call has_inputs
+    fits = fits_at_call code plans sound limits start at_call s.function s.arguments.items s.line (map use_of the_call.arguments) place in_call r of_call has_inputs
 
-    alike : RunsAsRecord code limits at_call s.function s.arguments.items s.line shape r
+    alike : RunsAsRecord code limits start at_call s.function s.arguments.items s.line shape r
     unfolding in_call
     alike =
-        as_record code plans sound limits at_call s.function s.arguments.items s.line (map use_of the_call.arguments) place in_call r of_call
-        (runs_alike code plans sound limits at_call s.function s.arguments.items s.line (map use_of the_call.arguments) place in_call)
+        as_record code plans sound limits start at_call s.function s.arguments.items s.line (map use_of the_call.arguments) place in_call r of_call
+        (runs_alike code plans sound limits start at_call s.function s.arguments.items s.line (map use_of the_call.arguments) place in_call)
 
-    inputs_are : inputs_of limits at_call shape r ≡ bytes_of_window side.space.state.memory (plain base 4) ∷ []
+    inputs_are : inputs_of start at_call shape r ≡ bytes_of_window side.space.state.memory (plain base 4) ∷ []
     inputs_are = rw (uses_are, sym memory_same) refl
 
     -- ---- the run of the call
@@ -164,12 +165,12 @@ module _ (limits : Limits) (code : Code) (plans : List (List Spot)) (sound : IsS
           ap (λ q. then_do (replied q (item (Calls the_call) s.line) st.so_far) (λ r t. then_do (behind_call world s.line s.function f s.arguments.items r side.machine t) (go_on (exec world code n)))) reply_is
           ∙ ap (λ m. then_do (behind_call world s.line s.function f s.arguments.items 1 m at_call) (go_on (exec world code n))) machine_is
 
-      comes_back : (n : ℕ) → ComesBack waits goes_back n (behind (by_itself code limits at_call shape r (suc n)) at_call)
+      comes_back : (n : ℕ) → ComesBack waits goes_back n (behind (by_itself code limits start at_call shape r (suc n)) at_call)
       comes_back n =
           subst (ComesBack waits goes_back n) (alike.dialogue (suc n)) (waits_for world code a callers s.line p s.function f s.arguments.items 0 owed rest n at_call function)
 
       -- where the task by itself returns, so many steps lead back to main
-      returns_back : (n cell : ℕ) (t : Tape) → by_itself code limits at_call shape r n ≡ Goes (Some cell) t
+      returns_back : (n cell : ℕ) (t : Tape) → by_itself code limits start at_call shape r n ≡ Goes (Some cell) t
           → (steps : ℕ) × ((more : ℕ) → calling (steps + more) ≡ exec world code more (At a callers p (0 ∷ rest)) (t ++ at_call))
       returns_back zero cell t e = absurd (cc)
       returns_back (suc n) cell t e =
@@ -177,7 +178,7 @@ module _ (limits : Limits) (code : Code) (plans : List (List Spot)) (sound : IsS
           (led.0, λ more. run_is (led.0 + more) ∙ led.1 more)
 
       -- where it stops, so does main
-      stops_there : (n : ℕ) (stop : Stop) (line : ℕ) (t : Tape) → by_itself code limits at_call shape r n ≡ Stops (Stopped stop line) t
+      stops_there : (n : ℕ) (stop : Stop) (line : ℕ) (t : Tape) → by_itself code limits start at_call shape r n ≡ Stops (Stopped stop line) t
           → (steps : ℕ) × (calling steps ≡ Stops (Stopped stop line) (t ++ at_call))
       stops_there zero stop line t e = absurd (cc)
       stops_there (suc n) stop line t e =
@@ -186,33 +187,33 @@ module _ (limits : Limits) (code : Code) (plans : List (List Spot)) (sound : IsS
 
     -- ---- what it leaves
 
-    leaves : (asked : Tape) → AreOfMachine asked → LeavesMain (no_frames limits.memory) at_call asked
-    leaves asked machine = leaves_main (no_frames limits.memory) at_call refl asked machine
+    leaves : (asked : Tape) → AreOfMachine asked → LeavesMain start.memory at_call asked
+    leaves asked machine = leaves_main start.memory at_call refl asked machine
 
-    module _ (n cell : ℕ) (t : Tape) (e : by_itself code limits at_call shape r n ≡ Goes (Some cell) t)
-        (bytes : List ℕ) (others : List (List ℕ)) (outs_are : outs_after (records.uses shape r) (inputs_of limits at_call shape r) r.stack_place t ≡ bytes ∷ others) where
-      memory_left : memory_after (no_frames limits.memory) (t ++ at_call) ≡ with_window side.space.state.memory (plain base 4) bytes
+    module _ (n cell : ℕ) (t : Tape) (e : by_itself code limits start at_call shape r n ≡ Goes (Some cell) t)
+        (bytes : List ℕ) (others : List (List ℕ)) (outs_are : outs_after (records.uses shape r) (inputs_of start at_call shape r) r.stack_place t ≡ bytes ∷ others) where
+      memory_left : memory_after start.memory (t ++ at_call) ≡ with_window side.space.state.memory (plain base 4) bytes
       memory_left =
           alike.memory n cell t e
-          ∙ ap (λ outs. written_back (memory_after (no_frames limits.memory) at_call) (records.uses shape r) outs) outs_are
-          ∙ ap (λ us. written_back (memory_after (no_frames limits.memory) at_call) us (bytes ∷ others)) uses_are
+          ∙ ap (λ outs. written_back (memory_after start.memory at_call) (records.uses shape r) outs) outs_are
+          ∙ ap (λ us. written_back (memory_after start.memory at_call) us (bytes ∷ others)) uses_are
           ∙ ap (λ m. with_window m (plain base 4) bytes) (sym memory_same)
 
       is_body : IsBodyTape (Goes (Some cell) t)
       is_body = subst IsBodyTape e (alike.tape_is n)
 
-      pub stands_behind : (there : Stands limits (behind_task side base bytes)) × (there.so_far ≡ t ++ at_call) × (output there.so_far ≡ output st.so_far)
+      pub stands_behind : (there : Stands limits start (behind_task side base bytes)) × (there.so_far ≡ t ++ at_call) × (output there.so_far ≡ output st.so_far)
       stands_behind =
           let asked = is_body.0 in
           let returned = is_body.1 in
           let tape_is : t ++ at_call ≡ item Returns returned ∷ (asked ++ at_call) = ap (λ x. x ++ at_call) is_body.2 in
-          let m_is = sym memory_left ∙ ap (memory_after (no_frames limits.memory)) tape_is in
-          let at = calls limits st.so_far side.space the_call s.line returned asked (with_window side.space.state.memory (plain base 4) bytes) st.at (are_of_body asked is_body.3) m_is in
+          let m_is = sym memory_left ∙ ap (memory_after start.memory) tape_is in
+          let at = calls limits start st.so_far side.space the_call s.line returned asked (with_window side.space.state.memory (plain base 4) bytes) st.at (are_of_body asked is_body.3) m_is in
           let stays = (leaves asked is_body.3).behind returned in (
             record {
               so_far = item Returns returned ∷ (asked ++ at_call);
               at =
-                  subst (λ (c : Call). IsMainAt limits (item Returns returned ∷ (asked ++ at_call))
+                  subst (λ (c : Call). IsMainAt limits start (item Returns returned ∷ (asked ++ at_call))
                   (with_units (record { memory = with_window side.space.state.memory (plain base 4) bytes; objects = fold with_argument side.space.state.objects c.arguments }) side.space.units))
                   call_same at;
               started_is = stays.started ∙ st.started_is;
@@ -234,10 +235,10 @@ first_of : (outs : List (List ℕ)) (bytes : List ℕ) → slice_get outs 0 ≡ 
 first_of [] bytes is = absurd (cc)
 first_of (out ∷ others) bytes is = let same : out ≡ bytes = cc in (others, ap (λ o. o ∷ others) same)
 
-module _ (limits : Limits) (code : Code) (plans : List (List Spot)) (sound : IsSound code plans) (tasks : HasPlainTasks code) (in_range : IsInRange limits)
-    (old mid : Side) (st : Stands limits old) (s : Submitted) (t : ToEvent limits code (events.Submit s) old mid st) where
+module _ (limits : Limits) (start : FlatState) (code : Code) (plans : List (List Spot)) (sound : IsSound code plans) (tasks : HasPlainTasks code) (in_range : IsInRange limits) (starts : IsStart limits.memory start)
+    (old mid : Side) (st : Stands limits start old) (s : Submitted) (t : ToEvent limits start code (events.Submit s) old mid st) where
   abbrev w : World
-  w = judged_in limits
+  w = judged_in limits start
 
   abbrev f : Routine
   f = t.does.1
@@ -253,27 +254,27 @@ module _ (limits : Limits) (code : Code) (plans : List (List Spot)) (sound : IsS
     task_end = comes_alone code ends.rec inputs limits.task_units end ends.alone f shape limits (record { function = ap (λ k. slice_get code.functions k) ends.is_of.function ∙ t.does.3; task = t.does.4 }) refl
 
     abbrev given : Tape
-    given = at_call limits code plans sound tasks in_range mid t.there s base ends.to ends.allowed f shape t.does.3 t.does.4
+    given = at_call limits start code plans sound tasks in_range starts mid t.there s base ends.to ends.allowed f shape t.does.3 t.does.4
 
-    given_is : inputs_of limits given shape ends.rec ≡ inputs
-    given_is = inputs_are limits code plans sound tasks in_range mid t.there s base ends.to ends.allowed f shape t.does.3 t.does.4 ends.rec ends.is_of
+    given_is : inputs_of start given shape ends.rec ≡ inputs
+    given_is = inputs_are limits start code plans sound tasks in_range starts mid t.there s base ends.to ends.allowed f shape t.does.3 t.does.4 ends.rec ends.is_of
 
   -- a call whose task returns
-  pub at_return : (new : Side) → IsOwed mid.machine → TaskReturns limits code s mid new → Moves limits code old (with_answer 0 new) [] st
+  pub at_return : (new : Side) → IsOwed mid.machine → TaskReturns limits code s mid new → Moves limits start code old (with_answer 0 new) [] st
   at_return new owed r =
       let base = r.base in
       let ends = r.ends in
       let end = task_end base (Outs r.outs) ends in
       let cell = owed_cell mid.machine owed in
       let is_given = given_is base (Outs r.outs) ends in
-      let e : by_itself code limits (given base (Outs r.outs) ends) shape ends.rec end.0 ≡ Goes (Some end.1) end.2 =
+      let e : by_itself code limits start (given base (Outs r.outs) ends) shape ends.rec end.0 ≡ Goes (Some end.1) end.2 =
       subst (λ (i : List (List ℕ)). alone (alone_world limits (records.uses shape ends.rec) i ends.rec.stack_place) code ends.rec.function (records.arguments shape ends.rec) ends.rec.line end.0 ≡ Goes (Some end.1) end.2) (sym is_given) end.3 in
       let first = first_of r.outs r.bytes r.out in
-      let outs_are : outs_after (records.uses shape ends.rec) (inputs_of limits (given base (Outs r.outs) ends) shape ends.rec) ends.rec.stack_place end.2 ≡ r.bytes ∷ first.0 =
+      let outs_are : outs_after (records.uses shape ends.rec) (inputs_of start (given base (Outs r.outs) ends) shape ends.rec) ends.rec.stack_place end.2 ≡ r.bytes ∷ first.0 =
       ap (λ i. outs_after (records.uses shape ends.rec) i ends.rec.stack_place end.2) is_given ∙ sym end.4 ∙ first.1 in
-      let led = returns_back limits code plans sound tasks in_range mid t.there s base ends.to ends.allowed f shape t.does.3 t.does.4 ends.rec ends.is_of cell.0 cell.1 cell.2 cell.3 cell.4 cell.5 end.0 end.1 end.2 e in
-      let left = stands_behind limits code plans sound tasks in_range mid t.there s base ends.to ends.allowed f shape t.does.3 t.does.4 ends.rec ends.is_of end.0 end.1 end.2 e r.bytes first.0 outs_are in
-      let moves : Moves limits code old (with_answer 0 (behind_task mid base r.bytes)) [] st = record {
+      let led = returns_back limits start code plans sound tasks in_range starts mid t.there s base ends.to ends.allowed f shape t.does.3 t.does.4 ends.rec ends.is_of cell.0 cell.1 cell.2 cell.3 cell.4 cell.5 end.0 end.1 end.2 e in
+      let left = stands_behind limits start code plans sound tasks in_range starts mid t.there s base ends.to ends.allowed f shape t.does.3 t.does.4 ends.rec ends.is_of end.0 end.1 end.2 e r.bytes first.0 outs_are in
+      let moves : Moves limits start code old (with_answer 0 (behind_task mid base r.bytes)) [] st = record {
         there = record { so_far = left.0.so_far; at = left.0.at; started_is = left.0.started_is; called_is = left.0.called_is };
         steps = t.does.0 + suc led.0;
         goes = λ n.
@@ -284,10 +285,10 @@ module _ (limits : Limits) (code : Code) (plans : List (List Spot)) (sound : IsS
             ∙ ap (λ tape. exec w code n (answered 0 mid.machine) tape) (sym left.1));
         wrote = left.2 ∙ t.wrote ∙ sym (append-nil (output st.so_far));
       } in
-      subst (λ x. Moves limits code old (with_answer 0 x) [] st) (sym r.new_is) moves
+      subst (λ x. Moves limits start code old (with_answer 0 x) [] st) (sym r.new_is) moves
 
   -- a call whose task stops
-  pub at_task_stop : (task : ℕ) (stop : Stop) (line : ℕ) → IsOwed mid.machine → TaskStops limits code s mid task stop line → ComesToEnd limits code old (endings.Stopped stop line (whose.Task task)) st
+  pub at_task_stop : (task : ℕ) (stop : Stop) (line : ℕ) → IsOwed mid.machine → TaskStops limits code s mid task stop line → ComesToEnd limits start code old (endings.Stopped stop line (whose.Task task)) st
   at_task_stop task stop line owed r =
       let base = r.base in
       let ends = r.ends in
@@ -295,32 +296,32 @@ module _ (limits : Limits) (code : Code) (plans : List (List Spot)) (sound : IsS
       let cell = owed_cell mid.machine owed in
       let is_given = given_is base (Halted stop line) ends in
       let here = given base (Halted stop line) ends in
-      let e : by_itself code limits here shape ends.rec end.0 ≡ Stops (Stopped stop line) end.1 =
+      let e : by_itself code limits start here shape ends.rec end.0 ≡ Stops (Stopped stop line) end.1 =
       subst (λ (i : List (List ℕ)). alone (alone_world limits (records.uses shape ends.rec) i ends.rec.stack_place) code ends.rec.function (records.arguments shape ends.rec) ends.rec.line end.0 ≡ Stops (Stopped stop line) end.1) (sym is_given) end.2 in
-      let led = stops_there limits code plans sound tasks in_range mid t.there s base ends.to ends.allowed f shape t.does.3 t.does.4 ends.rec ends.is_of cell.0 cell.1 cell.2 cell.3 cell.4 cell.5 end.0 stop line end.1 e in
+      let led = stops_there limits start code plans sound tasks in_range starts mid t.there s base ends.to ends.allowed f shape t.does.3 t.does.4 ends.rec ends.is_of cell.0 cell.1 cell.2 cell.3 cell.4 cell.5 end.0 stop line end.1 e in
       let asked : AreOfMachine end.1 =
-      subst IsBodyTape e ((alike limits code plans sound tasks in_range mid t.there s base ends.to ends.allowed f shape t.does.3 t.does.4 ends.rec ends.is_of).tape_is end.0) in
-      let left = leaves limits code plans sound tasks in_range mid t.there s base ends.to ends.allowed f shape t.does.3 t.does.4 ends.rec ends.is_of end.1 asked in
+      subst IsBodyTape e ((alike limits start code plans sound tasks in_range starts mid t.there s base ends.to ends.allowed f shape t.does.3 t.does.4 ends.rec ends.is_of).tape_is end.0) in
+      let left = leaves limits start code plans sound tasks in_range starts mid t.there s base ends.to ends.allowed f shape t.does.3 t.does.4 ends.rec ends.is_of end.1 asked in
       let number : (called t.there.so_far + 1) - 1 ≡ task = (let n : (called t.there.so_far + 1) - 1 ≡ called t.there.so_far = omega arith in n ∙ t.there.called_is ∙ sym r.task_is) in
       let who : who_runs (inside (end.1 ++ here)) ≡ whose.Task task = ap who_runs left.inside ∙ ap (λ n. whose.Task n) number in
       record {
         steps = t.does.0 + suc led.0;
         last = Stops (Stopped stop line) (end.1 ++ here);
         goes = ap (λ q. then_do q (main_ends w (main_frame code))) (t.does.5 led.0 ∙ led.1);
-        its = verdict_with (no_frames limits.memory) (end.1 ++ here) (endings.Stopped stop line (who_runs (inside (end.1 ++ here))));
+        its = verdict_with start.memory (end.1 ++ here) (endings.Stopped stop line (who_runs (inside (end.1 ++ here))));
         is = refl;
         ending_is = ap (λ x. endings.Stopped stop line x) who;
         wrote = left.body.output ∙ append-nil (output t.there.so_far) ∙ t.wrote;
       }
 
   -- a call that a rule refuses
-  pub at_refusal : (rule : Rule) → IsRefused limits s mid rule → ComesToEnd limits code old (endings.Stopped (stops.Rule rule) s.line whose.Main) st
+  pub at_refusal : (rule : Rule) → IsRefused limits s mid rule → ComesToEnd limits start code old (endings.Stopped (stops.Rule rule) s.line whose.Main) st
   at_refusal rule r =
       let later = t.there.so_far in
       let the_call = call_of s.function f shape s.arguments.items s.dims.items (base_of mid.machine) in
       let same = call_is f shape s.function r.base (base_of mid.machine) s.arguments.items s.dims.items (tasks s.function f shape t.does.3 t.does.4) r.to.argument r.to.fits in
       let refuses : w later (item (Calls the_call) s.line) ≡ Refuses rule =
-      asks_call limits later mid.space t.there.at s.line the_call
+      asks_call limits start later mid.space t.there.at s.line the_call
       ∙ ap (λ (c : Call). judged_reply (broken_by_call limits mid.space.state c.arguments) (Says 1)) same
       ∙ ap (λ o. judged_reply o (Says 1)) r.broken in
       let stopped : exec w code (t.does.0 + suc zero) old.machine st.so_far ≡ Stops (Stopped (stops.Rule rule) s.line) later =
@@ -330,7 +331,7 @@ module _ (limits : Limits) (code : Code) (plans : List (List Spot)) (sound : IsS
         steps = t.does.0 + suc zero;
         last = Stops (Stopped (stops.Rule rule) s.line) later;
         goes = ap (λ q. then_do q (main_ends w (main_frame code))) stopped;
-        its = verdict_with (no_frames limits.memory) later (endings.Stopped (stops.Rule rule) s.line (who_runs (inside later)));
+        its = verdict_with start.memory later (endings.Stopped (stops.Rule rule) s.line (who_runs (inside later)));
         is = refl;
         ending_is = rw t.there.at.by_main refl;
         wrote = t.wrote;

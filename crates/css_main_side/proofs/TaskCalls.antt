@@ -10,6 +10,7 @@ use Rattle.css_record.specs.Records.{FitsCode}
 use Rattle.css_record.specs.Records as records
 use Rattle.css_semantics.specs.Alone.{outs_after}
 use Rattle.css_semantics.specs.Dialogue.{Tape}
+use Rattle.css_semantics.specs.Flat.{FlatState, IsStart}
 use Rattle.css_semantics.specs.Memory.{Memory}
 use Rattle.css_semantics.specs.Rules.{room_of}
 use Rattle.css_semantics.proofs.Checks.{are_kept}
@@ -43,8 +44,8 @@ out_by uses inputs place tape base outs value one are first =
     let here = sym (ap (λ os. slice_get os 0) (are ∙ ap (λ us. outs_after us inputs place tape) one)) ∙ first in
     sym (ap length (some_same _ value here))
 
-module _ (limits : Limits) (code : Code) (plans : List (List Spot)) (sound : IsSound code plans) (tasks : HasPlainTasks code) (in_range : IsInRange limits)
-    (side : Side) (st : Stands limits side) (s : Submitted) (base : ℕ) (to : PointsTo s base) (whole : IsWhole code s)
+module _ (limits : Limits) (start : FlatState) (code : Code) (plans : List (List Spot)) (sound : IsSound code plans) (tasks : HasPlainTasks code) (in_range : IsInRange limits) (starts : IsStart limits.memory start)
+    (side : Side) (st : Stands limits start side) (s : Submitted) (base : ℕ) (to : PointsTo s base) (whole : IsWhole code s)
     (none : broken_by_call limits side.space.state (plain_argument base ∷ []) ≡ None) (place : base_of side.machine ≡ main_place side.space.state)
     (deep : length side.space.state.memory.stack ≤ 1048576) (many : side.space.state.memory.calls ≤ 32768)
     (r : TaskRecord) (of : IsRecordOf r code s side.called (main_place side.space.state) base) where
@@ -52,7 +53,7 @@ module _ (limits : Limits) (code : Code) (plans : List (List Spot)) (sound : IsS
   allowed = record { none = none; place = place; within = (deep, many) }
 
   fits_code : FitsCode code r
-  fits_code = (fits limits code plans sound tasks in_range side st s base to allowed whole.function whole.shape whole.is_there whole.is_task r of).fits
+  fits_code = (fits limits start code plans sound tasks in_range starts side st s base to allowed whole.function whole.shape whole.is_there whole.is_task r of).fits
 
   its_uses : records.uses whole.shape r ≡ its_use base ∷ []
   its_uses =

@@ -5,7 +5,7 @@ use Rattle.css_io.specs.Changes.{Change, Got}
 use Rattle.css_judged.specs.Judged.{Judged, IsMainAt}
 use Rattle.css_record.specs.declared.task_record.TaskRecord.{TaskRecord}
 use Rattle.css_semantics.specs.Dialogue.{Tape, Outcome, Goes, Stops, output, then_do}
-use Rattle.css_semantics.specs.Flat.{no_frames}
+use Rattle.css_semantics.specs.Flat.{FlatState, no_globals}
 use Rattle.css_semantics.specs.Tasks.{is_started, called}
 use Rattle.css_semantics.specs.Units.{Metered}
 use Rattle.css_semantics.specs.Verdict.{Verdict, verdict, judged_in}
@@ -15,17 +15,21 @@ use Rattle.css_yard.specs.Yards as yards
 use Rattle.css_main_side.specs.Ran.{RanAs}
 use Rattle.css_main_side.specs.declared.ran.Ran.{Ran}
 
+-- where main's run begins: so far a program has no globals, and reads nothing
+abbrev pub begins : Limits → FlatState
+begins limits = no_globals limits.memory
+
 -- a program's outcome as its code's
 abbrev pub halted : Outcome ℤ → Outcome (Option ℤ)
 halted (Goes v tape) = Goes (Some v) tape
 halted (Stops why tape) = Stops why tape
 
--- The code's dialogue in the judged world comes to this verdict.
-pub record ComesToVerdict (limits : Limits) (code : Code) (v : Verdict) : Type 0 where
+-- The code's dialogue in the judged world of a start comes to this verdict.
+pub record ComesToVerdict (limits : Limits) (start : FlatState) (code : Code) (v : Verdict) : Type 0 where
   pub steps : ℕ
   pub outcome : Outcome ℤ
-  pub comes : target (judged_in limits) code steps ≡ halted outcome
-  pub is : verdict (no_frames limits.memory) outcome ≡ Some v
+  pub comes : target (judged_in limits start) code steps ≡ halted outcome
+  pub is : verdict start.memory outcome ≡ Some v
 
 -- A yard of this code and these limits that has had no call.
 pub record IsFresh (code : Code) (limits : Limits) (its_code : Code) (its_limits : Limits) (state : yards.State) : Type 0 where
@@ -66,31 +70,31 @@ pub record Side : Type 0 where
   pub is_started : Bool
   pub called : ℕ
 
--- What main's run keeps is so at some tape.
-pub record Stands (limits : Limits) (side : Side) : Type 0 where
+-- What main's run keeps is so at some tape from a start.
+pub record Stands (limits : Limits) (start : FlatState) (side : Side) : Type 0 where
   pub so_far : Tape
-  pub at : IsMainAt limits so_far side.space
+  pub at : IsMainAt limits start so_far side.space
   pub started_is : is_started so_far ≡ side.is_started
   pub called_is : called so_far ≡ side.called
 
 -- From here, after what the tape so far has written, the code's dialogue in the judged world comes to the verdict.
-pub record Playing (limits : Limits) (code : Code) (v : Verdict) (side : Side) (written : List ℕ) : Type 0 where
-  pub stands : Stands limits side
+pub record Playing (limits : Limits) (start : FlatState) (code : Code) (v : Verdict) (side : Side) (written : List ℕ) : Type 0 where
+  pub stands : Stands limits start side
   pub written_is : output stands.so_far ≡ written
   pub steps : ℕ
   pub outcome : Outcome ℤ
-  pub goes : then_do (exec (judged_in limits) code steps side.machine stands.so_far) (main_ends (judged_in limits) (main_frame code)) ≡ halted outcome
-  pub verdict_is : verdict (no_frames limits.memory) outcome ≡ Some v
+  pub goes : then_do (exec (judged_in limits start) code steps side.machine stands.so_far) (main_ends (judged_in limits start) (main_frame code)) ≡ halted outcome
+  pub verdict_is : verdict start.memory outcome ≡ Some v
 
 -- A part of the run: the sink got some bytes, and wherever the run was on its way to a verdict it still is. The count of faults
 -- doesn't fall.
-pub record GoesOn (limits : Limits) (code : Code) (old new : Side) (pending pending' : List ℕ) (c : Change) : Type 0 where
+pub record GoesOn (limits : Limits) (start : FlatState) (code : Code) (old new : Side) (pending pending' : List ℕ) (c : Change) : Type 0 where
   pub front : List ℕ
   pub got : Got c front
-  pub playing : (v : Verdict) (written : List ℕ) → Playing limits code v old (written ++ pending) → Playing limits code v new (written ++ front ++ pending')
+  pub playing : (v : Verdict) (written : List ℕ) → Playing limits start code v old (written ++ pending) → Playing limits start code v new (written ++ front ++ pending')
   pub never_fell : c.faults_before ≤ c.faults_after
 
 -- The last part: of the output that is left, all with the ending, or a prefix.
-abbrev pub EndsRun : Limits → Code → Side → (pending : List ℕ) → Change → Ran → Type 0
-EndsRun limits code old pending c ran = (v : Verdict) (written : List ℕ) → Playing limits code v old (written ++ pending)
+abbrev pub EndsRun : Limits → (start : FlatState) → Code → Side → (pending : List ℕ) → Change → Ran → Type 0
+EndsRun limits start code old pending c ran = (v : Verdict) (written : List ℕ) → Playing limits start code v old (written ++ pending)
     → (rest : List ℕ) × (v.output ≡ written ++ rest) × RanAs v.ending rest c ran

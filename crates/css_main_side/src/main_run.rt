@@ -3,7 +3,6 @@ ghost use Rattle.std.specs.Prelude.{◌≡◌, ◌≤◌, ◌<◌, false, [], �
 ghost use Rattle.css_base.specs.Limits.{IsInRange};
 ghost use Rattle.css_io.specs.Changes.{change};
 ghost use Rattle.css_judged.specs.Judged.{main_place, broken_by_call, plain_argument};
-ghost use Rattle.css_semantics.specs.Flat.{no_frames};
 ghost use Rattle.css_semantics.specs.Verdict.{Verdict};
 ghost use Rattle.css_semantics.specs.Units.{with_units};
 ghost use Rattle.css_vm.specs.Code.{Routine, code_of};
@@ -15,7 +14,7 @@ ghost use Rattle.css_main_side.specs.Calls.{PointsTo, CallEnds, TaskReturns, Ans
 ghost use Rattle.css_main_side.specs.Events.{with_answer, Marked, MarkEnds, left_with, finished_space, reply_to_leaving};
 ghost use Rattle.css_main_side.specs.Pending.{Passes};
 ghost use Rattle.css_main_side.specs.Plain.{HasPlainTasks};
-ghost use Rattle.css_main_side.specs.Playing.{ComesToVerdict, IsFresh, IsReady, IsLeft, Stands, GoesOn, EndsRun};
+ghost use Rattle.css_main_side.specs.Playing.{begins, ComesToVerdict, IsFresh, IsReady, IsLeft, Stands, GoesOn, EndsRun};
 ghost use Rattle.css_main_side.specs.Ran.{RanAs, Fails};
 ghost use Rattle.css_main_side.specs.Sides.{side};
 
@@ -62,7 +61,7 @@ pub fn play<Y: Yard, O: Sink>(
     requires plain { HasPlainTasks (code_of code.now) }
     requires in_range { IsInRange limits.now }
     requires fresh { IsFresh (code_of code.now) limits.now (Y.code yard.old) (Y.limits yard.old) (Y.state yard.old) }
-    ensures verdict { (v : Verdict) → ComesToVerdict limits.now (code_of code.now) v → RanAs v.ending v.output (change O.written O.faults out.old out.new) result }
+    ensures verdict { (v : Verdict) → ComesToVerdict limits.now (begins limits.now) (code_of code.now) v → RanAs v.ending v.output (change O.written O.faults out.old out.new) result }
     ensures yard { IsLeft (code_of code.now) limits.now (Y.code yard.new) (Y.limits yard.new) (Y.state yard.new) }
 {
     let Ok(mut pending) = Pending::new(alloc) else {
@@ -85,7 +84,7 @@ impl Main {
         requires in_range { IsInRange limits.now }
         ensures machine { IfOk result (λ m. m.machine.state ≡ Begin code.now.main [] (entry_line (slice_get (code_of code.now).functions code.now.main))) }
         ensures due { IfOk result (λ m. m.machine.due ≡ Due.Run) }
-        ensures memory { IfOk result (λ m. m.memory ≡ record { memory = no_frames limits.now.memory; objects = [] }) }
+        ensures memory { IfOk result (λ m. m.memory ≡ record { memory = (begins limits.now).memory; objects = [] }) }
         ensures units { IfOk result (λ m. m.units ≡ limits.now.main_units) }
         ensures not_started { IfOk result (λ m. m.is_started ≡ false) }
         ensures none_called { IfOk result (λ m. m.called ≡ 0) }
@@ -113,19 +112,19 @@ impl Main {
         requires sound { (plans : List (List Spot)) × IsSound (code_of code.now) plans }
         requires plain { HasPlainTasks (code_of code.now) }
         requires in_range { IsInRange limits.now }
-        requires stands { Stands limits.now (side self.old) }
+        requires stands { Stands limits.now (begins limits.now) (side self.old) }
         requires due { self.old.machine.due ≡ Due.Run }
         requires fits { Fits (code_of code.now) self.old.machine.state }
         requires stacked { IsStacked (code_of code.now) (main_place self.old.memory) self.old.machine.state }
         requires ready { IsReady (code_of code.now) limits.now self.old.called (Y.code yard.old) (Y.limits yard.old) (Y.state yard.old) }
-        ensures goes_on { IfNone result (GoesOn limits.now (code_of code.now) (side self.old) (side self.new) pending.old pending.new (change O.written O.faults out.old out.new)) }
-        ensures stands { IfNone result (Stands limits.now (side self.new)) }
+        ensures goes_on { IfNone result (GoesOn limits.now (begins limits.now) (code_of code.now) (side self.old) (side self.new) pending.old pending.new (change O.written O.faults out.old out.new)) }
+        ensures stands { IfNone result (Stands limits.now (begins limits.now) (side self.new)) }
         ensures due { IfNone result (self.new.machine.due ≡ Due.Run) }
         ensures fits { IfNone result (Fits (code_of code.now) self.new.machine.state) }
         ensures stacked { IfNone result (IsStacked (code_of code.now) (main_place self.new.memory) self.new.machine.state) }
         ensures ready { IfNone result (IsReady (code_of code.now) limits.now self.new.called (Y.code yard.new) (Y.limits yard.new) (Y.state yard.new)) }
         ensures fewer { IfNone result (self.new.units < self.old.units) }
-        ensures ends { IfSome result (EndsRun limits.now (code_of code.now) (side self.old) pending.old (change O.written O.faults out.old out.new)) }
+        ensures ends { IfSome result (EndsRun limits.now (begins limits.now) (code_of code.now) (side self.old) pending.old (change O.written O.faults out.old out.new)) }
         ensures left { IfSome result (λ _. IsLeft (code_of code.now) limits.now (Y.code yard.new) (Y.limits yard.new) (Y.state yard.new)) }
     {
         let before = self.units;
@@ -153,18 +152,18 @@ impl Main {
         requires sound { (plans : List (List Spot)) × IsSound (code_of code.now) plans }
         requires plain { HasPlainTasks (code_of code.now) }
         requires in_range { IsInRange limits.now }
-        requires stands { Stands limits.now (side self.old) }
+        requires stands { Stands limits.now (begins limits.now) (side self.old) }
         requires due { self.old.machine.due ≡ Due.Run }
         requires fits { Fits (code_of code.now) self.old.machine.state }
         requires stacked { IsStacked (code_of code.now) (main_place self.old.memory) self.old.machine.state }
         requires ready { IsReady (code_of code.now) limits.now self.old.called (Y.code yard.old) (Y.limits yard.old) (Y.state yard.old) }
-        ensures goes_on { IfNone result (GoesOn limits.now (code_of code.now) (side self.old) (side self.new) pending.old pending.new (change O.written O.faults out.old out.new)) }
-        ensures stands { IfNone result (Stands limits.now (side self.new)) }
+        ensures goes_on { IfNone result (GoesOn limits.now (begins limits.now) (code_of code.now) (side self.old) (side self.new) pending.old pending.new (change O.written O.faults out.old out.new)) }
+        ensures stands { IfNone result (Stands limits.now (begins limits.now) (side self.new)) }
         ensures due { IfNone result (self.new.machine.due ≡ Due.Run) }
         ensures fits { IfNone result (Fits (code_of code.now) self.new.machine.state) }
         ensures stacked { IfNone result (IsStacked (code_of code.now) (main_place self.new.memory) self.new.machine.state) }
         ensures ready { IfNone result (IsReady (code_of code.now) limits.now self.new.called (Y.code yard.new) (Y.limits yard.new) (Y.state yard.new)) }
-        ensures ends { IfSome result (EndsRun limits.now (code_of code.now) (side self.old) pending.old (change O.written O.faults out.old out.new)) }
+        ensures ends { IfSome result (EndsRun limits.now (begins limits.now) (code_of code.now) (side self.old) pending.old (change O.written O.faults out.old out.new)) }
         ensures left { IfSome result (λ _. IsLeft (code_of code.now) limits.now (Y.code yard.new) (Y.limits yard.new) (Y.state yard.new)) }
     {
         let Ok(event) = self
@@ -290,7 +289,7 @@ impl Main {
         requires sound { (plans : List (List Spot)) × IsSound (code_of code.now) plans }
         requires plain { HasPlainTasks (code_of code.now) }
         requires in_range { IsInRange limits.now }
-        requires stands { Stands limits.now (side self.old) }
+        requires stands { Stands limits.now (begins limits.now) (side self.old) }
         requires due { self.old.machine.due ≡ Due.Value }
         requires owed { IsOwed self.old.machine.state }
         requires stacked { IsStacked (code_of code.now) (main_place self.old.memory) self.old.machine.state }
@@ -329,7 +328,7 @@ impl Main {
         requires sound { (plans : List (List Spot)) × IsSound (code_of code.now) plans }
         requires plain { HasPlainTasks (code_of code.now) }
         requires in_range { IsInRange limits.now }
-        requires stands { Stands limits.now (side self.old) }
+        requires stands { Stands limits.now (begins limits.now) (side self.old) }
         requires place { base_of self.old.machine.state ≡ main_place self.old.memory }
         requires whole { IsWhole (code_of code.now) call.now }
         requires to { PointsTo call.now base }

@@ -5,7 +5,7 @@ use Rattle.std.proofs.lemmas.List.{drop-drop, length-drop}
 use Rattle.std.proofs.lemmas.Bool.Decides.{nat_tests}
 use Rattle.css_semantics.specs.Dialogue.{Load, Store, Says}
 use Rattle.css_semantics.specs.Memory.{Memory, StackLimit, stack_place, is_between, is_live_byte, is_live, byte_at, bytes_at, big_endian, overlaid, stored, after}
-use Rattle.css_semantics.specs.Flat.{reply_in}
+use Rattle.css_semantics.specs.Flat.{memory_reply}
 use Rattle.css_semantics.proofs.StackPlaces.{length-overlaid}
 use Rattle.css_vm.proofs.Bytes.{drop-overlaid, overlaid-shift}
 
@@ -62,7 +62,7 @@ module _ (origin start address : ℕ) (bytes : List ℕ) (calls most : ℕ) (m :
   are_not_live count some outside = rw (live_from count some) (grind (arith, nat_tests))
 
   -- what is loaded
-  pub loaded : (offset count value : ℕ) → is_live m address count ≡ true → stack_place m + offset ≡ address → offset + count ≤ length m.stack → value ≡ big_endian (take count (drop (start + offset) bytes)) → reply_in m (Load address count) ≡ Says value
+  pub loaded : (offset count value : ℕ) → is_live m address count ≡ true → stack_place m + offset ≡ address → offset + count ≤ length m.stack → value ≡ big_endian (take count (drop (start + offset) bytes)) → memory_reply m (Load address count) ≡ Says value
   loaded offset count value live at inside is =
       let at' : origin + length bytes - length (drop start bytes) + offset ≡ address = ap (λ (m : Memory). stack_place m + offset) view ∙ at in
       let inside' : offset + count ≤ length (drop start bytes) = subst (λ (m : Memory). offset + count ≤ length m.stack) (sym view) inside in

@@ -2,7 +2,7 @@
 ghost use Rattle.std.specs.Prelude.{◌≡◌, ◌+◌, ◌≤◌, true, length, IfOk, IfSome, is_some, if◌then◌else◌};
 ghost use Rattle.css_semantics.specs.declared.TheConstants.{STACK_LIMIT};
 ghost use Rattle.css_semantics.specs.Memory.{first_global, is_live, is_live_byte, stack_place};
-ghost use Rattle.css_semantics.specs.Flat.{erased_stack, no_frames};
+ghost use Rattle.css_semantics.specs.Flat.{erased_stack, no_globals};
 ghost use Rattle.css_semantics.specs.WithWindow.{with_window};
 ghost use Rattle.css_semantics.specs.Rules.{main_stack, all_of_window};
 ghost use Rattle.css_semantics.specs.Tasks as tasks;
@@ -53,7 +53,7 @@ impl MainMemory {
     /// erased, else main's of the other runs; room for the first lies above 4,096 in either case. Takes its memory here.
     pub fn new(alloc: Global, size: u32, plain: bool) -> Result<MainMemory, NoMemory>
         requires { first_global + STACK_LIMIT ≤ size }
-        ensures { IfOk result (λ m. m ≡ record (no_frames size) { limit = if plain then erased_stack else main_stack }) }
+        ensures { IfOk result (λ m. m ≡ record (no_globals size).memory { limit = if plain then erased_stack else main_stack }) }
     {
         let (limit, most_calls) = if plain {
             (STACK_LIMIT, OPEN_CALLS)
@@ -126,10 +126,10 @@ impl MainMemory {
 
 impl Space for MainMemory {
     ghost use Rattle.css_semantics.specs.Memory.{after, stack_place};
-    ghost use Rattle.css_semantics.specs.Flat.{reply_in};
+    ghost use Rattle.css_semantics.specs.Flat.{memory_reply};
     ghost use Rattle.css_semantics.proofs.StackPlaces.{enters, lowers, leaves, loads, stores};
 
-    ghost reply = { reply_in };
+    ghost reply = { memory_reply };
 
     ghost learn = { after };
 

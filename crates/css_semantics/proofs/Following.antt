@@ -1,7 +1,7 @@
 -- What follows a state goes on following it, and a machine by itself writes nothing and begins and ends nothing.
 use Rattle.std.proofs.Common.{◌≡◌, [], ◌∷◌, ◌++◌, Bool, ◌||◌, IsTrue, refl, ap, sym, ◌∙◌, append_assoc}
 use Rattle.std.proofs.lemmas.List.{append-nil}
-use Rattle.css_semantics.specs.Dialogue.{Action, Enter, Turn, Leave, Load, Store, Out, Calls, Returns, Start, Finish, Barrier, Wait, Fault, End, Tape, Reply, World, output, written_by}
+use Rattle.css_semantics.specs.Dialogue.{Action, Enter, Turn, Leave, Load, Store, Out, In, Malloc, Calls, Returns, Start, Finish, Barrier, Wait, WaitFault, DimFault, Fault, End, Tape, Reply, World, output, written_by}
 use Rattle.css_semantics.specs.Worlds.{state_after, is_of_machine, is_fault, AreOfMachine, Follows}
 use Rattle.css_semantics.specs.Tasks.{started_after, is_started}
 
@@ -31,12 +31,16 @@ writes_nothing (Load address width) h = refl
 writes_nothing (Store address bytes) h = refl
 writes_nothing (Fault kind) h = refl
 writes_nothing (Out bytes) h = absurd (cc)
+writes_nothing In h = absurd (cc)
+writes_nothing (Malloc size) h = absurd (cc)
 writes_nothing (Calls call) h = absurd (cc)
 writes_nothing Returns h = absurd (cc)
 writes_nothing Start h = absurd (cc)
 writes_nothing Finish h = absurd (cc)
 writes_nothing Barrier h = absurd (cc)
 writes_nothing (Wait address) h = absurd (cc)
+writes_nothing WaitFault h = absurd (cc)
+writes_nothing DimFault h = absurd (cc)
 writes_nothing (End result) h = absurd (cc)
 
 -- a machine by itself writes nothing
@@ -53,12 +57,16 @@ begins_nothing before (Load address width) h = refl
 begins_nothing before (Store address bytes) h = refl
 begins_nothing before (Fault kind) h = refl
 begins_nothing before (Out bytes) h = absurd (cc)
+begins_nothing before In h = absurd (cc)
+begins_nothing before (Malloc size) h = absurd (cc)
 begins_nothing before (Calls call) h = absurd (cc)
 begins_nothing before Returns h = absurd (cc)
 begins_nothing before Start h = absurd (cc)
 begins_nothing before Finish h = absurd (cc)
 begins_nothing before Barrier h = absurd (cc)
 begins_nothing before (Wait address) h = absurd (cc)
+begins_nothing before WaitFault h = absurd (cc)
+begins_nothing before DimFault h = absurd (cc)
 begins_nothing before (End result) h = absurd (cc)
 
 -- and leaves it as it is whether calls make tasks

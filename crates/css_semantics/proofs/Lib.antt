@@ -1,6 +1,7 @@
 pub mod Following
 pub mod FlatWorld
 pub mod StackPlaces
+pub mod LaidOut
 pub mod Windows
 pub mod Checks
 pub mod Apart

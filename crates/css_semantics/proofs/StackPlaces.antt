@@ -5,7 +5,7 @@ use Rattle.std.proofs.lemmas.Bool.{and_parts, leb-true, eqb-true}
 use Rattle.css_semantics.specs.Dialogue.{Enter, Leave, Load, Store, Says, Fails, Refuses}
 use Rattle.css_base.specs.declared.rule.Rule.TheVariants.{MainStack}
 use Rattle.css_semantics.specs.Memory.{Memory, stack_place, is_live, overlaid, stored, after}
-use Rattle.css_semantics.specs.Flat.{reply_in, has_room, is_innermost}
+use Rattle.css_semantics.specs.Flat.{memory_reply, has_room, is_innermost}
 
 -- what the reply to an entry is
 entered : (b : Bool) (place size base : ℕ) → (if b then Says (place - size) else Refuses MainStack) ≡ Says base → (b ≡ true) × (place - size ≡ base)
@@ -30,17 +30,17 @@ pub length-overlaid : (from : ℕ) (bytes : List ℕ) (address : ℕ) (new : Lis
 length-overlaid from [] address new = refl
 length-overlaid from (b ∷ bytes) address new = omega (arith, length-overlaid (from + 1) bytes address new)
 
-pub enters : (m : Memory) (size base : ℕ) → reply_in m (Enter size) ≡ Says base → stack_place (after m (Enter size)) ≡ base
+pub enters : (m : Memory) (size base : ℕ) → memory_reply m (Enter size) ≡ Says base → stack_place (after m (Enter size)) ≡ base
 enters m size base is =
     let says = entered (has_room m size) (stack_place m) size base is in
     omega (arith, says.1, length-append (replicate size 0) m.stack, length-replicate {A = ℕ})
 
-pub lowers : (m : Memory) (size base : ℕ) → reply_in m (Enter size) ≡ Says base → base + size ≡ stack_place m
+pub lowers : (m : Memory) (size base : ℕ) → memory_reply m (Enter size) ≡ Says base → base + size ≡ stack_place m
 lowers m size base is =
     let says = entered (has_room m size) (stack_place m) size base is in
     omega (arith, says.1, room m size says.0)
 
-pub leaves : (m : Memory) (size r : ℕ) → reply_in m (Leave (stack_place m) size) ≡ Says r → stack_place (after m (Leave (stack_place m) size)) ≡ stack_place m + size
+pub leaves : (m : Memory) (size r : ℕ) → memory_reply m (Leave (stack_place m) size) ≡ Says r → stack_place (after m (Leave (stack_place m) size)) ≡ stack_place m + size
 leaves m size r is =
     let in_stack = fits_inner m (stack_place m) size (left (is_innermost m (stack_place m) size) r is) in
     omega (arith, in_stack, length-drop size m.stack)

@@ -7,7 +7,7 @@ use Rattle.std.proofs.lemmas.List.{length-append, length-replicate, length-drop,
 use Rattle.css_base.specs.declared.direction.Direction.TheVariants as directions
 use Rattle.css_base.specs.declared.limits.Limits.{Limits}
 use Rattle.css_base.specs.declared.rule.Rule.TheVariants as rules
-use Rattle.css_semantics.specs.Dialogue.{Action, Enter, Turn, Leave, Load, Store, Out, Calls, Returns, Start, Finish, Barrier, Wait, Fault, End, Item, Tape, Reply, Says, Fails, Refuses}
+use Rattle.css_semantics.specs.Dialogue.{Action, Enter, Turn, Leave, Load, Store, Out, In, Malloc, Calls, Returns, Start, Finish, Barrier, Wait, WaitFault, DimFault, Fault, End, Item, Tape, Reply, Says, Fails, Refuses}
 use Rattle.css_semantics.specs.Worlds.{state_after, is_of_machine, is_fault, AreOfMachine, Follows}
 use Rattle.css_semantics.specs.Memory.{all_from, big_endian, overlaid}
 use Rattle.css_semantics.specs.Units.{Metered, with_units, within, metered, spending}
@@ -139,12 +139,16 @@ module _ (limits : Limits) (uses : List Use) (both : All IsBoth uses) (s : Solit
       ap (λ b. judged_reply (first_broken (check rules.OutsideArguments b ∷ check rules.WroteInput (some_from (is_given_for (λ d. not (writes d)) s.body) address (length bytes)) ∷ check rules.ReadUnwritten false ∷ check rules.LeftUnwritten false ∷ check rules.TaskStack false ∷ check rules.Units false ∷ [])) (Says 0)) (given_same address (length bytes))
       ∙ store_reply (is_given (space_of s) address (length bytes)) (some_from (is_given_for (λ d. not (writes d)) s.body) address (length bytes)) (unwritten address (length bytes))
   same_reply (Out bytes) machine = absurd (cc)
+  same_reply In machine = absurd (cc)
+  same_reply (Malloc size) machine = absurd (cc)
   same_reply (Calls call) machine = absurd (cc)
   same_reply Returns machine = absurd (cc)
   same_reply Start machine = absurd (cc)
   same_reply Finish machine = absurd (cc)
   same_reply Barrier machine = absurd (cc)
   same_reply (Wait address) machine = absurd (cc)
+  same_reply WaitFault machine = absurd (cc)
+  same_reply DimFault machine = absurd (cc)
   same_reply (Fault kind) machine = absurd (cc)
   same_reply (End result) machine = absurd (cc)
 
@@ -178,12 +182,16 @@ same_after limit s (Load address width) machine = ap (λ n. with_units (space_of
 same_after limit s (Store address bytes) machine = ap (λ n. with_units (space_behind (space_of s) (Store address bytes)) (limit - n)) (sym (add-zero s.body.units))
 same_after limit s (Fault kind) machine = ap (λ n. with_units (space_of s) (limit - n)) (sym (add-zero s.body.units))
 same_after limit s (Out bytes) machine = absurd (cc)
+same_after limit s In machine = absurd (cc)
+same_after limit s (Malloc size) machine = absurd (cc)
 same_after limit s (Calls call) machine = absurd (cc)
 same_after limit s Returns machine = absurd (cc)
 same_after limit s Start machine = absurd (cc)
 same_after limit s Finish machine = absurd (cc)
 same_after limit s Barrier machine = absurd (cc)
 same_after limit s (Wait address) machine = absurd (cc)
+same_after limit s WaitFault machine = absurd (cc)
+same_after limit s DimFault machine = absurd (cc)
 same_after limit s (End result) machine = absurd (cc)
 
 -- a store moves no region
@@ -231,12 +239,16 @@ stands_after uses s (Store address bytes) machine stands = record {
 }
 stands_after uses s (Fault kind) machine stands = record { uses_are = stands.uses_are; same_place = stands.same_place; room = stands.room; stack = stands.stack; regions = stands.regions }
 stands_after uses s (Out bytes) machine stands = absurd (cc)
+stands_after uses s In machine stands = absurd (cc)
+stands_after uses s (Malloc size) machine stands = absurd (cc)
 stands_after uses s (Calls call) machine stands = absurd (cc)
 stands_after uses s Returns machine stands = absurd (cc)
 stands_after uses s Start machine stands = absurd (cc)
 stands_after uses s Finish machine stands = absurd (cc)
 stands_after uses s Barrier machine stands = absurd (cc)
 stands_after uses s (Wait address) machine stands = absurd (cc)
+stands_after uses s WaitFault machine stands = absurd (cc)
+stands_after uses s DimFault machine stands = absurd (cc)
 stands_after uses s (End result) machine stands = absurd (cc)
 
 -- ---- along a tape
@@ -283,12 +295,16 @@ rows_after s (Enter size) = refl
 rows_after s Turn = refl
 rows_after s (Load address width) = refl
 rows_after s (Out bytes) = refl
+rows_after s In = refl
+rows_after s (Malloc size) = refl
 rows_after s (Calls call) = refl
 rows_after s Returns = refl
 rows_after s Start = refl
 rows_after s Finish = refl
 rows_after s Barrier = refl
 rows_after s (Wait address) = refl
+rows_after s WaitFault = refl
+rows_after s DimFault = refl
 rows_after s (Fault kind) = refl
 rows_after s (End result) = refl
 

@@ -2,7 +2,7 @@
 use Rattle.std.specs.Prelude.{ℕ, zero, suc, ◌+◌, ◌-◌, Bool, false, List, [], ◌∷◌, ◌++◌, length, take, drop, replicate, map, flat_map, slice_index, nat_le, ◌==◌, ◌&&◌, if◌then◌else◌}
 use Rattle.css_base.specs.declared.limits.Limits.{Limits}
 use Rattle.css_semantics.specs.Dialogue.{Action, Tape, Reply, Says, Fails, World}
-use Rattle.css_semantics.specs.Actions.{Access, Enters, Leaves, Loads, Stores, NoAccess, access_of}
+use Rattle.css_semantics.specs.Actions.{Access, Enters, Leaves, Loads, Stores, Allots, NoAccess, access_of}
 use Rattle.css_semantics.specs.Worlds.{world_of, state_after}
 use Rattle.css_semantics.specs.Memory.{big_endian, is_between, overlaid}
 use Rattle.css_semantics.specs.Tasks.{Window, Use, window_length, reads, writes, Body, entry_of, body_behind}
@@ -55,6 +55,7 @@ task_accessed m (Stores address new) = record m {
   regions = map (overlaid_region address new) m.regions;
   stack = overlaid (task_place m) m.stack address new;
 }
+task_accessed m (Allots size) = m
 task_accessed m NoAccess = m
 
 abbrev pub task_after : TaskMemory → Action → TaskMemory
@@ -69,12 +70,13 @@ is_first size (frame ∷ frames) = frame == size
 abbrev pub is_innermost : TaskMemory → (frames : List ℕ) → (base size : ℕ) → Bool
 is_innermost m frames base size = (base + length m.stack == m.place) && (nat_le size (length m.stack) && is_first size frames)
 
--- the reply to an action that no rule refuses, where these frames are open: only the innermost frame is left
+-- The reply to an action that no rule refuses, where these frames are open: only the innermost frame is left. A task has no heap.
 abbrev pub access_reply : TaskMemory → (frames : List ℕ) → Access → Reply
 access_reply m frames (Enters size) = Says (task_place m - size)
 access_reply m frames (Leaves base size) = if is_innermost m frames base size then Says 0 else Fails
 access_reply m frames (Loads address width) = Says (big_endian (task_bytes m address width))
 access_reply m frames (Stores address bytes) = Says 0
+access_reply m frames (Allots size) = Says 0
 access_reply m frames NoAccess = Says 0
 
 abbrev pub task_reply : TaskMemory → (frames : List ℕ) → Action → Reply
@@ -132,6 +134,7 @@ alone_by s (Enters size) behind = behind
 alone_by s (Leaves base size) behind = if is_innermost s.memory s.body.frames base size then behind else s
 alone_by s (Loads address width) behind = behind
 alone_by s (Stores address bytes) behind = behind
+alone_by s (Allots size) behind = behind
 alone_by s NoAccess behind = behind
 
 abbrev pub alone_after : Solitude → Action → Solitude

@@ -1,7 +1,8 @@
 -- The flat memory: live bytes of globals, of the heap and of the stack.
 use Rattle.std.specs.Prelude.{ℕ, zero, suc, ◌+◌, ◌-◌, ◌*◌, ◌/◌, ◌%◌, List, [], ◌∷◌, ◌++◌, length, drop, replicate, fold, slice_index, Bool, true, nat_le, nat_lt, ◌&&◌, ◌||◌, if◌then◌else◌}
 use Rattle.css_semantics.specs.Dialogue.{Action, Tape}
-use Rattle.css_semantics.specs.Actions.{Access, Enters, Leaves, Loads, Stores, NoAccess, access_of}
+use Rattle.css_semantics.specs.Actions.{Access, Enters, Leaves, Loads, Stores, Allots, NoAccess, access_of}
+use Rattle.css_semantics.specs.declared.TheConstants.{STACK_LIMIT}
 use Rattle.css_semantics.specs.Worlds.{state_after}
 
 -- the value of big-endian bytes
@@ -51,6 +52,20 @@ heap_top m = heap_start m + length m.heap
 abbrev pub stack_place : Memory → ℕ
 stack_place m = m.end - length m.stack
 
+-- ---- the heap
+
+-- the heap ends where the stack of an erased program may begin
+abbrev pub heap_end : Memory → ℕ
+heap_end m = m.end - STACK_LIMIT
+
+-- the heap has room for so many bytes more, at the next multiple of 16
+abbrev pub has_heap : Memory → (size : ℕ) → Bool
+has_heap m size = nat_lt 0 size && nat_le (heap_top m + rounded_up 16 size) (heap_end m)
+
+-- the memory with so many zeros more at the heap's top, if there is room
+abbrev pub with_heap : Memory → (size : ℕ) → Memory
+with_heap m size = if has_heap m size then record m { heap = m.heap ++ replicate (rounded_up 16 size) 0 } else m
+
 -- ---- accesses
 
 -- of so many bytes from an address, each has a property
@@ -99,13 +114,14 @@ stored m address new = record m {
 
 -- ---- what actions do
 
--- what an action does to the memory: an entry adds a frame of zeros below the stack place, a leaving takes it away, and a store
--- that isn't wholly live changes nothing
+-- what an action does to the memory: an entry adds a frame of zeros below the stack place, a leaving takes it away, a store that isn't
+-- wholly live changes nothing, and zeros are added to the heap where there is room
 abbrev pub accessed : Memory → Access → Memory
 accessed m (Enters size) = record m { stack = replicate size 0 ++ m.stack; calls = m.calls + 1 }
 accessed m (Leaves base size) = record m { stack = drop size m.stack; calls = m.calls - 1 }
 accessed m (Loads address width) = m
 accessed m (Stores address bytes) = if is_live m address (length bytes) then stored m address bytes else m
+accessed m (Allots size) = with_heap m size
 accessed m NoAccess = m
 
 abbrev pub after : Memory → Action → Memory

@@ -1,7 +1,7 @@
 -- Which objects are pending: tasks may still read or write them.
 use Rattle.std.specs.Prelude.{ℕ, Bool, true, false, not, ◌||◌, List, [], ◌∷◌, ◌++◌, length, filter, map, fold, ◌==◌, is_none, if◌then◌else◌}
 use Rattle.std.specs.List.{list_any}
-use Rattle.css_semantics.specs.Dialogue.{Action, Enter, Turn, Leave, Load, Store, Out, Calls, Returns, Start, Finish, Barrier, Wait, Fault, End, Tape, Argument}
+use Rattle.css_semantics.specs.Dialogue.{Action, Enter, Turn, Leave, Load, Store, Out, In, Malloc, Calls, Returns, Start, Finish, Barrier, Wait, WaitFault, DimFault, Fault, End, Tape, Argument}
 use Rattle.css_semantics.specs.Memory.{all_from}
 use Rattle.css_semantics.specs.Tasks.{Window, window, has_byte, is_same_window, writes, body}
 
@@ -43,8 +43,12 @@ pending_after is_main objects Turn = objects
 pending_after is_main objects (Leave base size) = objects
 pending_after is_main objects (Load address width) = objects
 pending_after is_main objects (Out bytes) = objects
+pending_after is_main objects In = objects
+pending_after is_main objects (Malloc size) = objects
 pending_after is_main objects Returns = objects
 pending_after is_main objects Start = objects
+pending_after is_main objects WaitFault = objects
+pending_after is_main objects DimFault = objects
 pending_after is_main objects (Fault kind) = objects
 
 abbrev pub pending : Tape → List Object

@@ -7,7 +7,7 @@ use Rattle.css_base.specs.declared.direction.Direction.{Direction}
 use Rattle.css_base.specs.declared.rule.Rule.{Rule}
 use Rattle.css_base.specs.declared.rule.Rule.TheVariants as rules
 use Rattle.css_semantics.specs.Dialogue.{Action, Tape, Reply, Refuses, World, Argument}
-use Rattle.css_semantics.specs.Actions.{Access, Enters, Leaves, Loads, Stores, NoAccess, access_of, Boundary, BodyBegins, BodyEnds, NoBoundary, boundary_of, Directive, Starting, Finishing, AtBarrier, WaitingOn, NoDirective, directive_of}
+use Rattle.css_semantics.specs.Actions.{Access, Enters, Leaves, Loads, Stores, Allots, NoAccess, access_of, Boundary, BodyBegins, BodyEnds, NoBoundary, boundary_of, Directive, Starting, Finishing, AtBarrier, WaitingOn, NoDirective, directive_of, FaultAside, InWait, InDimension, NotAside, fault_aside_of}
 use Rattle.css_semantics.specs.Memory.{Memory, StackLimit, rounded_up, all_from, is_between, is_live_byte, memory_after}
 use Rattle.css_semantics.specs.Tasks.{Window, window, has_byte, is_same_window, window_length, span, reads, writes, Body, body, unit_of, is_started, main_units}
 use Rattle.css_semantics.specs.Pending.{Object, some_from, pending}
@@ -79,6 +79,15 @@ abbrev pub has_bad_dimension : Argument → Bool
 has_bad_dimension a =
     not (list_all is_dimension a.dimensions) || (overlaps_itself a.is_strided a.dimensions || nat_lt (2 ^ 30) (span (window a)))
 
+-- a dimension is at fault
+abbrev pub faults_in_dimension : FaultAside → Bool
+faults_in_dimension InWait = false
+faults_in_dimension InDimension = true
+faults_in_dimension NotAside = false
+
+abbrev pub is_dimension_at_fault : Action → Bool
+is_dimension_at_fault action = faults_in_dimension (fault_aside_of action)
+
 -- the windows that differ
 abbrev pub different : List Window → List Window
 different [] = []
@@ -123,6 +132,7 @@ meets_pending objects (Enters size) = false
 meets_pending objects (Leaves base size) = meets (λ o. true) objects base size
 meets_pending objects (Loads address width) = meets (λ o. o.is_written) objects address width
 meets_pending objects (Stores address bytes) = meets (λ o. o.is_written) objects address (length bytes)
+meets_pending objects (Allots size) = false
 meets_pending objects NoAccess = false
 
 abbrev pub is_unsynchronised : List Object → Action → Bool
@@ -155,6 +165,7 @@ lies_outside b (Enters size) = false
 lies_outside b (Leaves base size) = false
 lies_outside b (Loads address width) = is_outside b address width
 lies_outside b (Stores address bytes) = is_outside b address (length bytes)
+lies_outside b (Allots size) = false
 lies_outside b NoAccess = false
 
 abbrev pub is_outside_arguments : Body → Action → Bool
@@ -176,6 +187,7 @@ writes_input b (Enters size) = false
 writes_input b (Leaves base size) = false
 writes_input b (Loads address width) = false
 writes_input b (Stores address bytes) = some_from (is_given_for (λ d. not (writes d)) b) address (length bytes)
+writes_input b (Allots size) = false
 writes_input b NoAccess = false
 
 abbrev pub is_input_written : Body → Action → Bool
@@ -186,6 +198,7 @@ reads_unwritten b (Enters size) = false
 reads_unwritten b (Leaves base size) = false
 reads_unwritten b (Loads address width) = some_from (is_unwritten b) address width
 reads_unwritten b (Stores address bytes) = false
+reads_unwritten b (Allots size) = false
 reads_unwritten b NoAccess = false
 
 abbrev pub is_unwritten_read : Body → Action → Bool
@@ -207,6 +220,7 @@ of_frame test (Enters size) = test size
 of_frame test (Leaves base size) = false
 of_frame test (Loads address width) = false
 of_frame test (Stores address bytes) = false
+of_frame test (Allots size) = false
 of_frame test NoAccess = false
 
 abbrev pub is_entry_too_deep : StackLimit → List ℕ → Action → Bool
@@ -220,6 +234,16 @@ is_main_too_deep m action =
 -- an action takes a unit where none is left
 abbrev pub wants_unit : (limit used : ℕ) → Action → Bool
 wants_unit limit used action = nat_lt 0 (unit_of action) && nat_le limit used
+
+-- ---- X16: the expressions of a wait
+
+abbrev pub faults_in_wait : FaultAside → Bool
+faults_in_wait InWait = true
+faults_in_wait InDimension = false
+faults_in_wait NotAside = false
+
+abbrev pub is_bad_wait : Action → Bool
+is_bad_wait action = faults_in_wait (fault_aside_of action)
 
 -- ---- the first rule
 
@@ -235,7 +259,7 @@ abbrev pub checks_of_main : Memory → Limits → Tape → Action → List Check
 checks_of_main m limits tape action =
     check rules.StartTwice (is_start_twice tape action)
     ∷ check rules.FinishWithout (is_finish_without tape action)
-    ∷ check rules.Dimension (of_arguments (list_any has_bad_dimension) action)
+    ∷ check rules.Dimension (is_dimension_at_fault action || of_arguments (list_any has_bad_dimension) action)
     ∷ check rules.TooLarge (of_arguments (λ all. nat_lt limits.local_store (room_of (map window all))) action)
     ∷ check rules.DeadArgument (of_arguments (list_any (λ a. not (all_of_window (is_live_byte m) (window a)))) action)
     ∷ check rules.PartialOverlap (of_arguments (λ all. list_any (overlaps_partly (pending tape) all) all) action)
@@ -243,6 +267,7 @@ checks_of_main m limits tape action =
     ∷ check rules.Unsynchronised (is_unsynchronised (pending tape) action)
     ∷ check rules.MainStack (is_main_too_deep m action)
     ∷ check rules.Units (wants_unit limits.main_units (main_units tape) action)
+    ∷ check rules.BadWait (is_bad_wait action)
     ∷ []
 
 -- what a task may break

@@ -4,7 +4,7 @@ use Rattle.std.specs.Prelude.{ℕ, ◌+◌, ◌-◌, ◌≤◌, Bool, ◌||◌, 
 use Rattle.std.specs.List.{list_any}
 use Rattle.css_base.specs.declared.rule.Rule.TheVariants as rules
 use Rattle.css_semantics.specs.Dialogue.{Action, Reply, Says, Fails, Refuses}
-use Rattle.css_semantics.specs.Actions.{Access, Enters, Leaves, Loads, Stores, NoAccess, access_of}
+use Rattle.css_semantics.specs.Actions.{Access, Enters, Leaves, Loads, Stores, Allots, NoAccess, access_of}
 use Rattle.css_semantics.specs.Memory.{big_endian}
 use Rattle.css_semantics.specs.Tasks.{frames_after}
 use Rattle.css_semantics.specs.Rules.{task_stack, is_too_deep, is_in_frame}
@@ -37,6 +37,7 @@ reply_to s (Leaves base size) = if is_innermost s.memory s.frames base size then
 reply_to s (Loads address width) =
     if is_given s address width then Says (big_endian (task_bytes s.memory address width)) else Refuses rules.OutsideArguments
 reply_to s (Stores address bytes) = if is_given s address (length bytes) then Says 0 else Refuses rules.OutsideArguments
+reply_to s (Allots size) = Says 0
 reply_to s NoAccess = Says 0
 
 abbrev pub space_reply : TaskState → Action → Reply
@@ -51,6 +52,7 @@ space_by s (Enters size) behind = behind
 space_by s (Leaves base size) behind = if is_innermost s.memory s.frames base size then behind else s
 space_by s (Loads address width) behind = behind
 space_by s (Stores address bytes) behind = behind
+space_by s (Allots size) behind = behind
 space_by s NoAccess behind = behind
 
 abbrev pub space_after : TaskState → Action → TaskState

@@ -3,7 +3,7 @@ use Rattle.std.specs.Prelude.{ℕ, zero, suc, ◌+◌, ◌-◌, ◌*◌, ℤ, po
 use Rattle.css_base.specs.declared.direction.Direction.{Direction}
 use Rattle.css_base.specs.declared.direction.Direction.TheVariants as directions
 use Rattle.css_semantics.specs.Dialogue.{Action, Tape, Argument, Call}
-use Rattle.css_semantics.specs.Actions.{Access, Enters, Leaves, Loads, Stores, NoAccess, access_of, Taking, OnEntry, OnTurn, NoUnit, taking_of, Boundary, BodyBegins, BodyEnds, NoBoundary, boundary_of, Directive, Starting, Finishing, AtBarrier, WaitingOn, NoDirective, directive_of}
+use Rattle.css_semantics.specs.Actions.{Access, Enters, Leaves, Loads, Stores, Allots, NoAccess, access_of, Taking, OnEntry, OnTurn, NoUnit, taking_of, Boundary, BodyBegins, BodyEnds, NoBoundary, boundary_of, Directive, Starting, Finishing, AtBarrier, WaitingOn, NoDirective, directive_of}
 use Rattle.css_semantics.specs.Worlds.{state_after}
 use Rattle.css_semantics.specs.Memory.{is_between}
 
@@ -129,6 +129,7 @@ frames_by frames (Enters size) = size ∷ frames
 frames_by frames (Leaves base size) = drop 1 frames
 frames_by frames (Loads address width) = frames
 frames_by frames (Stores address bytes) = frames
+frames_by frames (Allots size) = frames
 frames_by frames NoAccess = frames
 
 abbrev pub frames_after : List ℕ → Action → List ℕ
@@ -140,6 +141,7 @@ stored_by ranges (Enters size) = ranges
 stored_by ranges (Leaves base size) = ranges
 stored_by ranges (Loads address width) = ranges
 stored_by ranges (Stores address bytes) = record { base = address; size = length bytes } ∷ ranges
+stored_by ranges (Allots size) = ranges
 stored_by ranges NoAccess = ranges
 
 abbrev pub stored_after : List Range → Action → List Range

@@ -8,7 +8,7 @@ use Rattle.css_base.specs.declared.limits.Limits.{Limits}
 use Rattle.css_semantics.specs.Dialogue.{Action, Item, Tape, World, Call, Outcome, Goes, Stops, Stopped, Tired, output}
 use Rattle.css_semantics.specs.Actions.{Boundary, BodyBegins, BodyEnds, NoBoundary, boundary_of, Directive, Starting, Finishing, AtBarrier, WaitingOn, NoDirective, directive_of}
 use Rattle.css_semantics.specs.Memory.{Memory, bytes_at, image, memory_after}
-use Rattle.css_semantics.specs.Flat.{no_frames, in_memory}
+use Rattle.css_semantics.specs.Flat.{FlatState, in_memory}
 use Rattle.css_semantics.specs.Tasks.{Window, is_started, inside}
 use Rattle.css_semantics.specs.Pending.{pending}
 use Rattle.css_semantics.specs.Rules.{judged}
@@ -106,6 +106,6 @@ verdict start (Goes v tape) = Some (verdict_with start tape (endings.Result v))
 verdict start (Stops (Stopped stop line) tape) = Some (verdict_with start tape (endings.Stopped stop line (who_runs (inside tape))))
 verdict start (Stops Tired tape) = None
 
--- the world in which a program is judged: one flat memory, and the rules
-abbrev pub judged_in : Limits → World
-judged_in limits = judged (no_frames limits.memory) limits (in_memory limits.memory)
+-- the world in which a program is judged from a start: one flat memory and an input, and the rules
+abbrev pub judged_in : Limits → (start : FlatState) → World
+judged_in limits start = judged start.memory limits (in_memory start)

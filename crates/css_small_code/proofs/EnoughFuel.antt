@@ -2,9 +2,8 @@
 use Rattle.std.proofs.Common.{◌≡◌, ℕ, zero, suc, ◌+◌, ◌<◌, ◌≤◌, ◌&&◌, Some, [], ◌∷◌, length, sym, subst, arith}
 use Rattle.css_semantics.specs.Dialogue.{Action, Enter, Turn, Calls, Returns, item, Reply, Says, Fails, Refuses, World, Tape, Stops, Tired, then_do, ask}
 use Rattle.css_semantics.specs.Worlds.{state_after}
-use Rattle.css_semantics.specs.Memory.{Memory, after}
 use Rattle.css_semantics.specs.Units.{Metered, with_units, within, spending}
-use Rattle.css_semantics.specs.Flat.{no_frames, reply_in, flat}
+use Rattle.css_semantics.specs.Flat.{FlatState, reply_in, flat_after, flat}
 use Rattle.css_semantics.specs.Tasks.{is_started}
 use Rattle.css_small.specs.Tree.{Function, Program}
 use Rattle.css_small.specs.Numbers.{IsNumbered, HasNumbers}
@@ -13,7 +12,7 @@ use Rattle.css_small_code.proofs.Places.{scope_of, item_at, holds_at}
 use Rattle.css_small_code.proofs.Spending.{TakesUnit, Ends, Takes, ends_reply, takes_reply, ends_then, ends_if, Spends, CallsEnd, ends_applied, ends_left, ends_plain_call, ends_source, not_tired}
 
 -- no action gives units
-none_given : (m : Metered Memory) (action : Action) → (spending after m action).units ≤ m.units
+none_given : (m : Metered FlatState) (action : Action) → (spending flat_after m action).units ≤ m.units
 none_given m (Enter size) = omega arith
 none_given m Turn = omega arith
 none_given m action = omega arith
@@ -25,13 +24,13 @@ one_left zero Fails value e = cc
 one_left zero (Refuses rule) value e = cc
 one_left (suc units) reply value e = omega arith
 
-module _ (memory units : ℕ) where
+module _ (start : FlatState) (units : ℕ) where
   abbrev w : World
-  w = flat memory units
+  w = flat start units
 
   -- the memory and the units behind a tape
-  abbrev state : Tape → Metered Memory
-  state tape = state_after (spending after) (with_units (no_frames memory) units) tape
+  abbrev state : Tape → Metered FlatState
+  state tape = state_after (spending flat_after) (with_units start units) tape
 
   abbrev units_at : Tape → ℕ
   units_at tape = (state tape).units

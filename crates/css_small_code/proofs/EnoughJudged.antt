@@ -6,7 +6,7 @@ use Rattle.css_base.specs.declared.limits.Limits.{Limits}
 use Rattle.css_base.specs.declared.rule.Rule.{Rule}
 use Rattle.css_semantics.specs.Dialogue.{Action, Enter, Turn, Calls, Returns, item, Reply, Says, Fails, Refuses, World, Tape, Outcome, Goes, Stops, Stopped, Tired, then_do, replied, ask}
 use Rattle.css_semantics.specs.Memory.{Memory, memory_after}
-use Rattle.css_semantics.specs.Flat.{no_frames, in_memory}
+use Rattle.css_semantics.specs.Flat.{FlatState, in_memory}
 use Rattle.css_semantics.specs.Tasks.{Body, unit_of, body_behind, body_after, body, is_started, main_units}
 use Rattle.css_semantics.specs.Rules.{wants_unit, Check, checks_of_main, checks_of_task, first_broken, hit, judged_reply}
 use Rattle.css_semantics.specs.Verdict.{judged_in}
@@ -71,12 +71,12 @@ counts action line tape is = ap (λ b. if is_none b then main_units tape + unit_
 counts_not : (b : Body) (action : Action) (line : ℕ) (tape : Tape) → body tape ≡ Some b → main_units (item action line ∷ tape) ≡ main_units tape
 counts_not b action line tape is = ap (λ b. if is_none b then main_units tape + unit_of action else main_units tape) is
 
-module _ (limits : Limits) where
+module _ (limits : Limits) (from : FlatState) where
   abbrev start : Memory
-  start = no_frames limits.memory
+  start = from.memory
 
   abbrev w : World
-  w = judged_in limits
+  w = judged_in limits from
 
   -- main goes on, with so many units left
   abbrev IsMain : Tape → Type 0
@@ -108,13 +108,13 @@ module _ (limits : Limits) where
 
   main_has : (action : Action) (line : ℕ) (tape : Tape) (value : ℕ) → TakesUnit action → IsMain tape → w tape (item action line) ≡ Says value → main_units tape < limits.main_units
   main_has action line tape value takes is e =
-      let none = sym (hit_main tape action is) ∙ allowed (hit start limits tape action) (in_memory limits.memory tape (item action line)) value e in
+      let none = sym (hit_main tape action is) ∙ allowed (hit start limits tape action) (in_memory from tape (item action line)) value e in
       let all = none_broken (checks_of_main (memory_after start tape) limits tape action) none in
       unit_left limits.main_units (main_units tape) action takes all.1.1.1.1.1.1.1.1.1.0
 
   task_has : (b : Body) (action : Action) (line : ℕ) (tape : Tape) (value : ℕ) → TakesUnit action → body tape ≡ Some b → w tape (item action line) ≡ Says value → b.units < limits.task_units
   task_has b action line tape value takes is e =
-      let none = sym (hit_task b tape action is) ∙ allowed (hit start limits tape action) (in_memory limits.memory tape (item action line)) value e in
+      let none = sym (hit_task b tape action is) ∙ allowed (hit start limits tape action) (in_memory from tape (item action line)) value e in
       let all = none_broken (checks_of_task limits b action) none in
       unit_left limits.task_units b.units action takes all.1.1.1.1.1.0
 

@@ -9,6 +9,7 @@ use Rattle.css_base.specs.declared.rule.Rule.TheVariants.{Unsynchronised, Outsid
 use Rattle.css_num.specs.declared.operators.BinOp.TheVariants.{Add}
 use Rattle.css_semantics.specs.Dialogue as dialogue
 use Rattle.css_semantics.specs.Dialogue.{Enter, Leave, Load, Store, Out, Calls, Returns, Tape, item}
+use Rattle.css_semantics.specs.Flat.{FlatState, no_globals}
 use Rattle.css_semantics.specs.Verdict.{OfBarrier, OfFinish, CallIn, Verdict}
 use Rattle.css_small.specs.declared.tree.Directive.TheVariants.{Start, Finish, Barrier}
 use Rattle.css_small.specs.Tree.{Number, Variable, Element, Binary, Initialise, AssignElement, Call, Mark, Put, Return, Statements, End, More, Function, Program}
@@ -16,6 +17,10 @@ use Rattle.css_small.specs.Tree.{Number, Variable, Element, Binary, Initialise, 
 -- the smallest memory
 abbrev pub row_limits : Limits
 row_limits = record { workers = 1; bundle = 1; local_store = 32768; memory = 2097152; main_units = 100; task_units = 100 }
+
+-- they have no globals, and read nothing
+abbrev pub row_start : FlatState
+row_start = no_globals row_limits.memory
 
 -- 2 void inc(int *p) { p[i] = p[0] + 1; }
 abbrev pub adds_one_to : (i : ℕ) → Function

@@ -3,7 +3,7 @@ ghost use Rattle.std.specs.Prelude.{◌≡◌, ℕ, ◌+◌, Some};
 ghost use Rattle.css_base.specs.declared.limits.Limits.{Limits};
 ghost use Rattle.css_semantics.specs.Dialogue.{World, Tape, Stops, Tired};
 ghost use Rattle.css_semantics.specs.Memory.{Memory};
-ghost use Rattle.css_semantics.specs.Flat.{no_frames, flat};
+ghost use Rattle.css_semantics.specs.Flat.{FlatState, flat};
 ghost use Rattle.css_semantics.specs.Verdict.{Verdict, verdict, judged_in};
 ghost use Rattle.css_small.specs.Tree.{Program};
 ghost use Rattle.css_small.specs.Numbers.{HasNumbers};
@@ -17,12 +17,12 @@ pub fn more_fuel()
 
 /// In the flat world, units end a program before a fuel of one more than they are does.
 pub fn enough_fuel()
-    ensures { (memory units : ℕ) (p : Program) (tape : Tape) → HasNumbers p → source (flat memory units) (units + 1) p ≡ Stops Tired tape → ⊥ }
+    ensures { (start : FlatState) (units : ℕ) (p : Program) (tape : Tape) → HasNumbers p → source (flat start units) (units + 1) p ≡ Stops Tired tape → ⊥ }
 {}
 
 /// Under the rules, the units of main and of its tasks end a program before a fuel of more than both may take does.
 pub fn enough_fuel_judged()
-    ensures { (limits : Limits) (p : Program) (tape : Tape) → HasNumbers p → source (judged_in limits) (limits.main_units + limits.task_units + 2) p ≡ Stops Tired tape → ⊥ }
+    ensures { (limits : Limits) (start : FlatState) (p : Program) (tape : Tape) → HasNumbers p → source (judged_in limits start) (limits.main_units + limits.task_units + 2) p ≡ Stops Tired tape → ⊥ }
 {}
 
 /// A program has one verdict, whatever the fuel.
@@ -32,5 +32,5 @@ pub fn one_verdict()
 
 /// Under the rules every program has a verdict, by that much fuel.
 pub fn program_has_verdict()
-    ensures { (limits : Limits) (p : Program) → HasNumbers p → (v : Verdict) × (verdict (no_frames limits.memory) (source (judged_in limits) (limits.main_units + limits.task_units + 2) p) ≡ Some v) }
+    ensures { (limits : Limits) (start : FlatState) (p : Program) → HasNumbers p → (v : Verdict) × (verdict start.memory (source (judged_in limits start) (limits.main_units + limits.task_units + 2) p) ≡ Some v) }
 {}

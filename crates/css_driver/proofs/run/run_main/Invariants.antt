@@ -1,6 +1,6 @@
 use Rattle.std.proofs.Common.{◌≡◌, []}
 use Rattle.css_semantics.specs.Memory.{stack_place}
-use Rattle.css_semantics.specs.Flat.{no_frames}
+use Rattle.css_semantics.specs.Flat.{no_globals}
 use Rattle.css_semantics.specs.Units.{with_units}
 use Rattle.css_vm.specs.declared.machine.Due.TheVariants as due
 use Rattle.css_vm.specs.Code.{code_of}
@@ -19,5 +19,5 @@ invariant-loop-ran g l = record {
   due : l.machine.due ≡ due.Run;
   fits : Fits (code_of l.code) l.machine.state;
   stacked : IsStacked (code_of l.code) (stack_place l.space) l.machine.state;
-  goes_on : GoesOn (code_of l.code) l.initial.machine.state (with_units (no_frames l.fn.memory) l.fn.units) l.machine.state (with_units l.space l.units) [] l.pending (change g.O.Sink.written g.O.Sink.faults l.fn.out l.out);
+  goes_on : GoesOn (code_of l.code) l.initial.machine.state (with_units (no_globals l.fn.memory).memory l.fn.units) l.machine.state (with_units l.space l.units) [] l.pending (change g.O.Sink.written g.O.Sink.faults l.fn.out l.out);
 }

@@ -7,13 +7,13 @@ pub returns-clause-acts : goal.returns-clause-acts
 returns-clause-acts c = acts
 
 pub returns-clause-writes : goal.returns-clause-writes
-returns-clause-writes c = λ limits tape s bytes line at. acts limits tape s (item (Out bytes) line) refl at
+returns-clause-writes c = λ limits start tape s bytes line at. acts limits start tape s (item (Out bytes) line) refl at
 
 pub returns-clause-starts : goal.returns-clause-starts
-returns-clause-starts c = λ limits tape s line at. acts limits tape s (item Start line) refl at
+returns-clause-starts c = λ limits start tape s line at. acts limits start tape s (item Start line) refl at
 
 pub returns-clause-finishes : goal.returns-clause-finishes
-returns-clause-finishes c = λ limits tape s line at. acts limits tape s (item Finish line) refl at
+returns-clause-finishes c = λ limits start tape s line at. acts limits start tape s (item Finish line) refl at
 
 pub returns-clause-waits : goal.returns-clause-waits
-returns-clause-waits c = λ limits tape s line at. acts limits tape s (item Barrier line) refl at
+returns-clause-waits c = λ limits start tape s line at. acts limits start tape s (item Barrier line) refl at

@@ -13,10 +13,11 @@ use Rattle.css_semantics.specs.Tasks.{Window, window_length}
 use Rattle.css_semantics.specs.Verdict.{bytes_of_window}
 use Rattle.css_vm.specs.Code.{code_of}
 use Rattle.css_main_side.specs.Calls.{IsRecordOf, judged_behind}
-use Rattle.css_main_side.specs.Playing.{AreOneByOne, Side}
+use Rattle.css_main_side.specs.Playing.{begins, AreOneByOne, Side}
 use Rattle.css_main_side.specs.Sides.{side}
 use Rattle.css_main_side.proofs.OneByOne.{one_more, one_longer, refused_parts}
 use Rattle.css_main_side.proofs.TaskCalls.{task_may_run, out_length, task_returns, task_stops}
+use Rattle.css_main_side.proofs.RunParts.{begins_well}
 use Rattle.css_main_side.proofs.main_run.Main.make_task.Goals as goal
 
 pub run_alone-requires-clause-may : goal.run_alone-requires-clause-may
@@ -24,7 +25,7 @@ run_alone-requires-clause-may g c =
     let of : IsRecordOf c.in_ok-rec.rec (code_of c.args.code.now) c.args.call.now c.args.self.now.called (main_place c.args.self.now.memory) c.args.base =
     subst (λ p. IsRecordOf c.in_ok-rec.rec (code_of c.args.code.now) c.args.call.now c.args.self.now.called p c.args.base) c.place-place.ensures.value (c.in_ok-rec.ensures c.args.base c.plain-part.ensures.value) in
     let is = c.in_ok-bytes.ensures ∙ ap (bytes_of_window c.args.self.now.memory.memory) c.plain-part.ensures.value in
-    task_may_run c.args.limits.now (code_of c.args.code.now) c.requires.sound.0 c.requires.sound.1 c.requires.plain c.requires.in_range (side c.args.self.now) c.requires.stands
+    task_may_run c.args.limits.now (begins c.args.limits.now) (code_of c.args.code.now) c.requires.sound.0 c.requires.sound.1 c.requires.plain c.requires.in_range (begins_well c.args.limits.now c.requires.in_range) (side c.args.self.now) c.requires.stands
     c.args.call.now c.args.base c.requires.to c.requires.whole c.requires.none c.requires.place c.place-place.ensures.bytes c.place-place.ensures.calls c.in_ok-rec.rec of
     (g.Y.Yard.code c.args.yard.now) (g.Y.Yard.limits c.args.yard.now) c.in_ok-bytes.bytes c.requires.ready.code_is c.requires.ready.limits_are is
 
@@ -33,7 +34,7 @@ returns-in-Err-clause-stops g c =
     let of : IsRecordOf c.in_ok-rec.rec (code_of c.args.code.now) c.args.call.now c.args.self.now.called (main_place c.args.self.now.memory) c.args.base =
     subst (λ p. IsRecordOf c.in_ok-rec.rec (code_of c.args.code.now) c.args.call.now c.args.self.now.called p c.args.base) c.place-place.ensures.value (c.in_ok-rec.ensures c.args.base c.plain-part.ensures.value) in
     let is = c.in_ok-bytes.ensures ∙ ap (bytes_of_window c.args.self.now.memory.memory) c.plain-part.ensures.value in
-    task_stops c.args.limits.now (code_of c.args.code.now) c.requires.sound.0 c.requires.sound.1 c.requires.plain c.requires.in_range (side c.args.self.now) c.requires.stands
+    task_stops c.args.limits.now (begins c.args.limits.now) (code_of c.args.code.now) c.requires.sound.0 c.requires.sound.1 c.requires.plain c.requires.in_range (begins_well c.args.limits.now c.requires.in_range) (side c.args.self.now) c.requires.stands
     c.args.call.now c.args.base c.requires.to c.requires.whole c.requires.none c.requires.place c.place-place.ensures.bytes c.place-place.ensures.calls c.in_ok-rec.rec of
     (g.Y.Yard.code c.args.yard.now) (g.Y.Yard.limits c.args.yard.now).task_units c.in_ok-bytes.bytes c.requires.ready.code_is (ap (λ (l : Limits). l.task_units) c.requires.ready.limits_are) is c.in-Err.answer c.in-Err.ensures.stops
 
@@ -50,7 +51,7 @@ write_back-requires-clause-whole g c =
     subst (λ p. IsRecordOf c.in_ok-rec.rec (code_of c.args.code.now) c.args.call.now c.args.self.now.called p c.args.base) c.place-place.ensures.value (c.in_ok-rec.ensures c.args.base c.plain-part.ensures.value) in
     let is = c.in_ok-bytes.ensures ∙ ap (bytes_of_window c.args.self.now.memory.memory) c.plain-part.ensures.value in
     let four =
-    out_length c.args.limits.now (code_of c.args.code.now) c.requires.sound.0 c.requires.sound.1 c.requires.plain c.requires.in_range (side c.args.self.now) c.requires.stands
+    out_length c.args.limits.now (begins c.args.limits.now) (code_of c.args.code.now) c.requires.sound.0 c.requires.sound.1 c.requires.plain c.requires.in_range (begins_well c.args.limits.now c.requires.in_range) (side c.args.self.now) c.requires.stands
     c.args.call.now c.args.base c.requires.to c.requires.whole c.requires.none c.requires.place c.place-place.ensures.bytes c.place-place.ensures.calls c.in_ok-rec.rec of
     (g.Y.Yard.code c.args.yard.now) (g.Y.Yard.limits c.args.yard.now).task_units c.in_ok-bytes.bytes c.requires.ready.code_is (ap (λ (l : Limits). l.task_units) c.requires.ready.limits_are) is c.in-Ok.value c.in-Ok.ensures.value in
     ap length c.bytes-in-Ok.ensures ∙ four ∙ sym (ap window_length c.plain-part.ensures.value)
@@ -65,7 +66,7 @@ returns-in-Ok-clause-returns g c =
     let memory_is : c.write_back.new.self ≡ judged_behind c.args.self.now.memory c.args.base c.in-Ok.value = c.write_back.ensures ∙ ap over c.in_ok-add.ensures.added ∙ ap₂ written c.plain-part.ensures.value c.bytes-in-Ok.ensures in
     let called_is : c.in-Some.next ≡ c.args.self.now.called + 1 = grind (arith, common_steps) in
     let new : Judged → ℕ → Side = λ j n. record { machine = c.args.self.now.machine.state; space = with_units j c.args.self.now.units; is_started = c.args.self.now.is_started; called = n } in
-    task_returns c.args.limits.now (code_of c.args.code.now) c.requires.sound.0 c.requires.sound.1 c.requires.plain c.requires.in_range (side c.args.self.now) c.requires.stands
+    task_returns c.args.limits.now (begins c.args.limits.now) (code_of c.args.code.now) c.requires.sound.0 c.requires.sound.1 c.requires.plain c.requires.in_range (begins_well c.args.limits.now c.requires.in_range) (side c.args.self.now) c.requires.stands
     c.args.call.now c.args.base c.requires.to c.requires.whole c.requires.none c.requires.place c.place-place.ensures.bytes c.place-place.ensures.calls c.in_ok-rec.rec of
     (g.Y.Yard.code c.args.yard.now) (g.Y.Yard.limits c.args.yard.now).task_units c.in_ok-bytes.bytes c.requires.ready.code_is (ap (λ (l : Limits). l.task_units) c.requires.ready.limits_are) is c.in-Ok.value _ c.in-Ok.ensures.value
     (ap₂ new memory_is called_is)
