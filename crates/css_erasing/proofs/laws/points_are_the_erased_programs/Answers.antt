@@ -1,5 +1,4 @@
 use Rattle.css_erasing.proofs.Tapes.{same_output, same_memory}
-use Rattle.css_semantics.specs.Flat.{no_frames}
 use Rattle.css_semantics.specs.Verdict.{judged_in}
 use Rattle.css_small_code.specs.Meaning.{source}
 use Rattle.css_erasing.proofs.Points.{passed, verdict_images, passed_points}
@@ -15,7 +14,7 @@ pub returns-clause-written : goal.returns-clause-written
 returns-clause-written c = same_output
 
 pub returns-clause-images : goal.returns-clause-images
-returns-clause-images c limits fuel p v e = verdict_images (no_frames limits.memory) (source (judged_in limits) fuel p) v e
+returns-clause-images c limits start fuel p v e = verdict_images start.memory (source (judged_in limits start) fuel p) v e
 
 pub returns-clause-points : goal.returns-clause-points
 returns-clause-points c = passed_points
