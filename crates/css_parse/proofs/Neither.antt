@@ -55,16 +55,21 @@ module _ (ts : List Lexeme) (none : (tree : Tree) → IsAccepted ts tree → ⊥
         none tree (record { supported = supported; shallow = shallow; spells = subst (λ l. Spells l tree) (sym (parts ∙ append-nil front)) spells })
     never_longest n front (t ∷ rest) tree later parts spells few =
         no_fault (record { name = names.Syntax; line = line_of t })
-        (inr (inr (refl, supported, shallow, record {
-          front = front;
-          token = t;
-          rest = rest;
-          parts = parts;
-          tree = tree;
-          spells = spells;
-          longest = λ more behind other is also. no_longer n front (t ∷ rest) later parts few more behind other is also (cases_lt (length front) (length more));
-          line_is = refl;
-        })))
+        (inr (inr (
+          refl,
+          supported,
+          shallow,
+          record {
+            front = front;
+            token = t;
+            rest = rest;
+            parts = parts;
+            tree = tree;
+            spells = spells;
+            longest = λ more behind other is also. no_longer n front (t ∷ rest) later parts few more behind other is also (cases_lt (length front) (length more));
+            line_is = refl;
+          },
+        )))
 
     never_spelled : (n : ℕ) → NoneFrom n
     never_spelled zero front rest tree parts spells few = absurd (omega arith)
