@@ -17,7 +17,7 @@ use Rattle.css_core.specs.Actions.{Directive, Starting, Finishing, AtBarrier, Wa
 use Rattle.css_core.specs.Tasks.{is_started}
 use Rattle.css_core.specs.Functions.{source}
 use Rattle.css_core.specs.Fuel.{Extends}
-use Rattle.css_core.specs.Worlds.{State, state_after, after, before_main, flat}
+use Rattle.css_core.specs.Worlds.{FlatState, flat_at, flat}
 use Rattle.css_core.specs.Judged.{known_tape, hit, judged_in, whole_image, wait_image, images_at, images, verdict}
 use Rattle.css_core.specs.Without.{without_tasks, IsQuietProgram}
 use Rattle.css_core.specs.Plain.{plain, IsQuietTape, entries}
@@ -47,7 +47,7 @@ front tape quiet q more grows extends =
     let is = last.1 ∙ ap (λ t. last.0 ++ t) grows.1 ∙ sym (append_assoc last.0 grows.0 (plain tape)) in
     (output newer, ap output is ∙ output-append newer (plain tape) ∙ ap (λ bytes. bytes ++ output newer) (same_output tape quiet))
 
-answers : (start : State) (o q more : Outcome ℤ) (v : Verdict) → IsQuietTape (tape_of o) → IsErased o q → Extends q more → verdict start o ≡ Some v → Answers v.ending v.output more
+answers : (start : FlatState) (o q more : Outcome ℤ) (v : Verdict) → IsQuietTape (tape_of o) → IsErased o q → Extends q more → verdict start o ≡ Some v → Answers v.ending v.output more
 answers start (Goes value tape) q more v quiet is extends e =
     subst (λ (x : Verdict). Answers x.ending x.output more) (same_Some _ v e) (plain tape, subst (λ x. Extends x more) is extends, same_output tape quiet)
 answers start (Stops (Stopped (stops.Fault kind) line) tape) q more v quiet is extends e =
@@ -92,15 +92,15 @@ find_passes {X} test (y ∷ xs) x h = by (test y) refl h (find_passes test xs x)
     by true e h later = let same : y ≡ x = cc in subst (λ z. test z ≡ true) same e
     by false e h later = later h
 
-module _ (start : State) (erased : Tape) where
+module _ (start : FlatState) (erased : Tape) where
   abbrev memory_at : Tape → Memory
-  memory_at tape = (state_after after start tape).memory
+  memory_at tape = (flat_at start tape).memory
 
   none_seen : All (IsSeen start erased) []
   none_seen = All-from_recursion (IsSeen start erased) [] tt
 
   seen : (i : Image) (tape : Tape) → IsQuietTape tape → IsPassed tape erased → IsImageOf (memory_at tape) i → All (IsSeen start erased) (i ∷ [])
-  seen i tape quiet h is = All-from_recursion (IsSeen start erased) (i ∷ []) ((h.0, plain tape, h.1, subst (λ (s : State). IsImageOf s.memory i) (sym (same_state start tape quiet)) is), tt)
+  seen i tape quiet h is = All-from_recursion (IsSeen start erased) (i ∷ []) ((h.0, plain tape, h.1, subst (λ (s : FlatState). IsImageOf s.memory i) (sym (same_state start tape quiet)) is), tt)
 
   whole_seen : (b : Bool) (kind : ImageKind) (line : ℕ) (tape : Tape) → IsQuietTape tape → IsPassed tape erased → All (IsSeen start erased) (whole_image (memory_at tape) b kind line)
   whole_seen true kind line tape quiet h = seen _ tape quiet h (inl (refl, refl))
@@ -135,36 +135,33 @@ module _ (start : State) (erased : Tape) where
 
 -- ---- under the rules
 
-module _ (limits : Limits) (n : ℕ) (input : List ℕ) (p : Program) (is_quiet : IsQuietProgram p) where
-  abbrev start : State
-  start = before_main limits.memory input p
-
+module _ (limits : Limits) (start : FlatState) (n : ℕ) (p : Program) (is_quiet : IsQuietProgram p) where
   abbrev judged_by : ℕ → Outcome ℤ
-  judged_by fuel = source (judged_in limits input p) fuel p
+  judged_by fuel = source (judged_in limits start) fuel p
 
   abbrev erased_by : ℕ → Outcome ℤ
-  erased_by fuel = source (flat limits.memory n input p) fuel (without_tasks p)
+  erased_by fuel = source (flat start n) fuel (without_tasks p)
 
   pub is_erased : (fuel : ℕ) → entries (tape_of (judged_by fuel)) ≤ n → IsErased (judged_by fuel) (erased_by fuel)
-  is_erased fuel few = erased_source (judged_in limits input p) (flat limits.memory n input p) _ (erases (hit start limits) limits.memory n input p) fuel p is_quiet few
+  is_erased fuel few = erased_source (judged_in limits start) (flat start n) _ (erases (hit start limits) start n) fuel p is_quiet few
 
   quiet_by : (fuel : ℕ) → entries (tape_of (judged_by fuel)) ≤ n → IsQuietTape (tape_of (judged_by fuel))
-  quiet_by fuel few = quiet_source (judged_in limits input p) (flat limits.memory n input p) _ (erases (hit start limits) limits.memory n input p) fuel p is_quiet few
+  quiet_by fuel few = quiet_source (judged_in limits start) (flat start n) _ (erases (hit start limits) start n) fuel p is_quiet few
 
   pub erased_verdict : (fuel enough : ℕ) (v : Verdict) → verdict start (judged_by fuel) ≡ Some v → entries (tape_of (judged_by fuel)) ≤ n → fuel ≤ enough → Answers v.ending v.output (erased_by enough)
   erased_verdict fuel enough v e few le =
-      answers start (judged_by fuel) (erased_by fuel) (erased_by enough) v (quiet_by fuel few) (is_erased fuel few) (extends_source (flat limits.memory n input p) fuel enough (without_tasks p) le) e
+      answers start (judged_by fuel) (erased_by fuel) (erased_by enough) v (quiet_by fuel few) (is_erased fuel few) (extends_source (flat start n) fuel enough (without_tasks p) le) e
 
   pub erased_verdict_by_any : (fuel other : ℕ) (v : Verdict) → verdict start (judged_by fuel) ≡ Some v → entries (tape_of (judged_by fuel)) ≤ n → ((tape : Tape) → erased_by other ≡ Stops Tired tape → ⊥) → Answers v.ending v.output (erased_by other)
   erased_verdict_by_any fuel other v e few ends =
       ⊎_elim
-      (λ lt. subst (λ q. Answers v.ending v.output q) (settled (erased_by other) (erased_by fuel) (extends_source (flat limits.memory n input p) other fuel (without_tasks p) (omega (arith, lt))) ends) (erased_verdict fuel fuel v e few (omega arith)))
+      (λ lt. subst (λ q. Answers v.ending v.output q) (settled (erased_by other) (erased_by fuel) (extends_source (flat start n) other fuel (without_tasks p) (omega (arith, lt))) ends) (erased_verdict fuel fuel v e few (omega arith)))
       (λ le. erased_verdict fuel other v e few le) (cases_lt other fuel)
 
   pub passed : (fuel enough : ℕ) (newer tape : Tape) → tape_of (judged_by fuel) ≡ newer ++ tape → entries (tape_of (judged_by fuel)) ≤ n → fuel ≤ enough → IsPassed tape (tape_of (erased_by enough))
   passed fuel enough newer tape e few le =
       passed_older (tape_of (judged_by fuel)) newer tape (tape_of (erased_by enough)) e
-      (passed_more (tape_of (judged_by fuel)) (erased_by fuel) (erased_by enough) (extends_source (flat limits.memory n input p) fuel enough (without_tasks p) le) (passed_all (judged_by fuel) (erased_by fuel) (is_erased fuel few)))
+      (passed_more (tape_of (judged_by fuel)) (erased_by fuel) (erased_by enough) (extends_source (flat start n) fuel enough (without_tasks p) le) (passed_all (judged_by fuel) (erased_by fuel) (is_erased fuel few)))
 
   pub erased_images : (fuel enough : ℕ) (v : Verdict) → verdict start (judged_by fuel) ≡ Some v → entries (tape_of (judged_by fuel)) ≤ n → fuel ≤ enough → All (IsSeen start (tape_of (erased_by enough))) v.images
   erased_images fuel enough v e few le = seen_in start (tape_of (erased_by enough)) (judged_by fuel) v e (quiet_by fuel few) (passed fuel enough [] (tape_of (judged_by fuel)) refl few le)

@@ -11,13 +11,12 @@ use Rattle.css_semantics.specs.Tasks as tasks
 use Rattle.css_semantics.specs.Tasks.{Body, body_after, body, main_units}
 use Rattle.css_semantics.specs.Rules.{wants_unit, checks_of_main, checks_of_task, first_broken, judged_reply}
 use Rattle.css_semantics.proofs.Checks.{are_kept}
-use Rattle.css_core.specs.Core.{Program}
 use Rattle.css_core.specs.Dialogue.{Action, Enter, In, Malloc, Calls, Returns, WaitFault, DimFault, Item, Tape, World}
 use Rattle.css_core.specs.Actions.{is_of_calls}
 use Rattle.css_core.specs.Units.{unit_of}
 use Rattle.css_core.specs.Tasks.{is_inside}
 use Rattle.css_core.specs.Meters.{SpendsApart}
-use Rattle.css_core.specs.Worlds.{State, state_after, after, before_main, in_memory}
+use Rattle.css_core.specs.Worlds.{FlatState, flat_at, in_memory}
 use Rattle.css_core.specs.Judged.{known, with_known, known_tape, first_rule, hit, judged_in}
 
 -- ---- what a tape of the rules says
@@ -127,12 +126,9 @@ module _ (m : Memory) (limits : Limits) (tape : rules.Tape) where
 
 -- ---- the judged world
 
-module _ (limits : Limits) (input : List ℕ) (p : Program) where
-  abbrev start : State
-  start = before_main limits.memory input p
-
+module _ (limits : Limits) (start : FlatState) where
   abbrev memory_at : Tape → Memory
-  memory_at tape = (state_after after start tape).memory
+  memory_at tape = (flat_at start tape).memory
 
   abbrev pub main_left : Tape → ℕ
   main_left tape = limits.main_units - main_units (known_tape tape)
@@ -140,8 +136,8 @@ module _ (limits : Limits) (input : List ℕ) (p : Program) where
   abbrev pub task_left : Tape → ℕ
   task_left tape = limits.task_units - used (body (known_tape tape))
 
-  none_hit : (i : Item) (tape : Tape) (value : ℕ) → judged_in limits input p tape i ≡ Says value → first_rule (memory_at tape) limits (known_tape tape) (known i.action) ≡ None
-  none_hit i tape value e = allowed (hit start limits tape i) (in_memory limits.memory input p tape i) value e
+  none_hit : (i : Item) (tape : Tape) (value : ℕ) → judged_in limits start tape i ≡ Says value → first_rule (memory_at tape) limits (known_tape tape) (known i.action) ≡ None
+  none_hit i tape value e = allowed (hit start limits tape i) (in_memory start tape i) value e
 
   outside_none : (tape : Tape) → is_inside tape ≡ false → body (known_tape tape) ≡ None
   outside_none tape outside = none_if (body (known_tape tape)) (sym (inside_is tape) ∙ outside)
@@ -149,7 +145,7 @@ module _ (limits : Limits) (input : List ℕ) (p : Program) where
   inside_some : (tape : Tape) → is_inside tape ≡ true → (b : Body) × (body (known_tape tape) ≡ Some b)
   inside_some tape inside = some_if (body (known_tape tape)) (sym (inside_is tape) ∙ inside)
 
-  pub judged_spends : SpendsApart (judged_in limits input p) main_left task_left limits.task_units
+  pub judged_spends : SpendsApart (judged_in limits start) main_left task_left limits.task_units
   judged_spends = record {
     asks = λ i tape value outside e.
         let spent = main_spends (memory_at tape) limits (known_tape tape) (known i.action) i.line (outside_none tape outside) (none_hit i tape value e) in

@@ -5,7 +5,7 @@ use Rattle.css_core.specs.Dialogue.{Action, Enter, Load, Calls, Returns, Start, 
 use Rattle.css_core.specs.Actions.{is_load, is_of_tasks}
 use Rattle.css_core.specs.Units.{with_units, unit_of, spending}
 use Rattle.css_core.specs.Tasks.{is_started}
-use Rattle.css_core.specs.Worlds.{State, state_after, after}
+use Rattle.css_core.specs.Worlds.{FlatState, state_after, flat_after, flat_at}
 use Rattle.css_core.specs.Plain.{plain, IsQuietTape, entries}
 
 pub plain_stays : (action : Action) (line : ℕ) (tape : Tape) → is_of_tasks action ≡ false → plain (item action line ∷ tape) ≡ item action line ∷ plain tape
@@ -55,11 +55,11 @@ task_takes Barrier h = refl
 task_takes (Wait address) h = refl
 task_takes action h = cc
 
-load_keeps : (action : Action) (s : State) → IsTrue (is_load action) → after s action ≡ s
+load_keeps : (action : Action) (s : FlatState) → IsTrue (is_load action) → flat_after s action ≡ s
 load_keeps (Load address width) s h = refl
 load_keeps action s h = cc
 
-task_keeps : (action : Action) (s : State) → is_of_tasks action ≡ true → after s action ≡ s
+task_keeps : (action : Action) (s : FlatState) → is_of_tasks action ≡ true → flat_after s action ≡ s
 task_keeps (Calls call) s h = refl
 task_keeps Returns s h = refl
 task_keeps Start s h = refl
@@ -68,34 +68,34 @@ task_keeps Barrier s h = refl
 task_keeps (Wait address) s h = refl
 task_keeps action s h = cc
 
-module _ (start : State) where
-  state_behind : (aside tasks : Bool) (action : Action) (line : ℕ) (tape : Tape) → is_of_tasks action ≡ tasks → IsTrue (not aside || is_load action) → state_after after start (plain tape) ≡ state_after after start tape
-      → state_after after start (if aside || tasks then plain tape else record { action = action; line = line; is_aside = aside } ∷ plain tape) ≡ after (state_after after start tape) action
-  state_behind true tasks action line tape is quiet h = h ∙ sym (load_keeps action (state_after after start tape) quiet)
-  state_behind false true action line tape is quiet h = h ∙ sym (task_keeps action (state_after after start tape) is)
-  state_behind false false action line tape is quiet h = ap (λ s. after s action) h
+module _ (start : FlatState) where
+  state_behind : (aside tasks : Bool) (action : Action) (line : ℕ) (tape : Tape) → is_of_tasks action ≡ tasks → IsTrue (not aside || is_load action) → flat_at start (plain tape) ≡ flat_at start tape
+      → flat_at start (if aside || tasks then plain tape else record { action = action; line = line; is_aside = aside } ∷ plain tape) ≡ flat_after (flat_at start tape) action
+  state_behind true tasks action line tape is quiet h = h ∙ sym (load_keeps action (flat_at start tape) quiet)
+  state_behind false true action line tape is quiet h = h ∙ sym (task_keeps action (flat_at start tape) is)
+  state_behind false false action line tape is quiet h = ap (λ s. flat_after s action) h
 
-  pub same_state : (tape : Tape) → IsQuietTape tape → state_after after start (plain tape) ≡ state_after after start tape
+  pub same_state : (tape : Tape) → IsQuietTape tape → flat_at start (plain tape) ≡ flat_at start tape
   same_state [] quiet = refl
   same_state (i ∷ tape) quiet = state_behind i.is_aside (is_of_tasks i.action) i.action i.line tape refl quiet.0 (same_state tape quiet.1)
 
   -- units change nothing else
-  state_only : (n : ℕ) (tape : Tape) → (state_after (spending after) (with_units start n) tape).state ≡ state_after after start tape
+  state_only : (n : ℕ) (tape : Tape) → (state_after (spending flat_after) (with_units start n) tape).state ≡ flat_at start tape
   state_only n [] = refl
-  state_only n (i ∷ tape) = ap (λ s. after s i.action) (state_only n tape)
+  state_only n (i ∷ tape) = ap (λ s. flat_after s i.action) (state_only n tape)
 
   -- the units that are left behind a plain tape
-  units_behind : (n : ℕ) (aside tasks : Bool) (action : Action) (line : ℕ) (tape : Tape) → is_of_tasks action ≡ tasks → IsTrue (not aside || is_load action) → (state_after (spending after) (with_units start n) (plain tape)).units ≡ n - entries tape
-      → (state_after (spending after) (with_units start n) (if aside || tasks then plain tape else record { action = action; line = line; is_aside = aside } ∷ plain tape)).units ≡ n - (entries tape + unit_of action)
+  units_behind : (n : ℕ) (aside tasks : Bool) (action : Action) (line : ℕ) (tape : Tape) → is_of_tasks action ≡ tasks → IsTrue (not aside || is_load action) → (state_after (spending flat_after) (with_units start n) (plain tape)).units ≡ n - entries tape
+      → (state_after (spending flat_after) (with_units start n) (if aside || tasks then plain tape else record { action = action; line = line; is_aside = aside } ∷ plain tape)).units ≡ n - (entries tape + unit_of action)
   units_behind n true tasks action line tape is quiet h = let none = load_takes action quiet in h ∙ omega (arith, none)
   units_behind n false true action line tape is quiet h = let none = task_takes action is in h ∙ omega (arith, none)
   units_behind n false false action line tape is quiet h = ap (λ units. units - unit_of action) h ∙ omega arith
 
-  pub same_units : (n : ℕ) (tape : Tape) → IsQuietTape tape → (state_after (spending after) (with_units start n) (plain tape)).units ≡ n - entries tape
+  pub same_units : (n : ℕ) (tape : Tape) → IsQuietTape tape → (state_after (spending flat_after) (with_units start n) (plain tape)).units ≡ n - entries tape
   same_units n [] quiet = omega arith
   same_units n (i ∷ tape) quiet = units_behind n i.is_aside (is_of_tasks i.action) i.action i.line tape refl quiet.0 (same_units n tape quiet.1)
 
-  pub same_metered : (n : ℕ) (tape : Tape) → IsQuietTape tape → (state_after (spending after) (with_units start n) (plain tape)).state ≡ state_after after start tape
+  pub same_metered : (n : ℕ) (tape : Tape) → IsQuietTape tape → (state_after (spending flat_after) (with_units start n) (plain tape)).state ≡ flat_at start tape
   same_metered n tape quiet = state_only n (plain tape) ∙ same_state tape quiet
 
 -- ---- what a plain tape writes

@@ -1,4 +1,4 @@
--- What an action is: to a memory, to the units, to tasks, and for whom it is asked. What other files ask of actions they ask of these
+-- What an action is: to a memory, to the input, to the units, to tasks, and for whom it is asked. What other files ask of actions they ask of these
 -- tables, so that a new action has a meaning nowhere by silence.
 use Rattle.std.specs.Prelude.{ℕ, Bool, true, false, List}
 use Rattle.css_semantics.specs.Dialogue.{Call}
@@ -13,7 +13,7 @@ pub data Access : Type 0 where
   Leaves : (base size : ℕ) → Access
   Loads : (address width : ℕ) → Access
   Stores : (address : ℕ) (bytes : List ℕ) → Access
-  Allocates : (size : ℕ) → Access
+  Allots : (size : ℕ) → Access
   NoAccess : Access
 
 abbrev pub access_of : Action → Access
@@ -24,7 +24,7 @@ access_of (Load address width) = Loads address width
 access_of (Store address bytes) = Stores address bytes
 access_of (Out bytes) = NoAccess
 access_of In = NoAccess
-access_of (Malloc size) = Allocates size
+access_of (Malloc size) = Allots size
 access_of (Calls call) = NoAccess
 access_of Returns = NoAccess
 access_of Start = NoAccess
@@ -41,11 +41,34 @@ loads (Enters size) = false
 loads (Leaves base size) = false
 loads (Loads address width) = true
 loads (Stores address bytes) = false
-loads (Allocates size) = false
+loads (Allots size) = false
 loads NoAccess = false
 
 abbrev pub is_load : Action → Bool
 is_load action = loads (access_of action)
+
+-- ---- the input
+
+-- how many bytes of the input an action takes, if there are any
+abbrev pub bytes_taken : Action → ℕ
+bytes_taken (Enter size) = 0
+bytes_taken Turn = 0
+bytes_taken (Leave base size) = 0
+bytes_taken (Load address width) = 0
+bytes_taken (Store address bytes) = 0
+bytes_taken (Out bytes) = 0
+bytes_taken In = 1
+bytes_taken (Malloc size) = 0
+bytes_taken (Calls call) = 0
+bytes_taken Returns = 0
+bytes_taken Start = 0
+bytes_taken Finish = 0
+bytes_taken Barrier = 0
+bytes_taken (Wait address) = 0
+bytes_taken WaitFault = 0
+bytes_taken DimFault = 0
+bytes_taken (Fault kind) = 0
+bytes_taken (End result) = 0
 
 -- ---- units
 

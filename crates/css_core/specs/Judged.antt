@@ -11,11 +11,10 @@ use Rattle.css_semantics.specs.Tasks.{body, inside}
 use Rattle.css_semantics.specs.Pending.{Object, pending}
 use Rattle.css_semantics.specs.Rules.{checks_of_main, checks_of_task, first_broken, judged_reply}
 use Rattle.css_semantics.specs.Verdict.{ImageKind, OfBarrier, OfFinish, OfWait, Image, bytes_of_window, Verdict, calls, who_runs}
-use Rattle.css_core.specs.Core.{Program}
 use Rattle.css_core.specs.Dialogue.{Action, Enter, Turn, Leave, Load, Store, Out, In, Malloc, Calls, Returns, Start, Finish, Barrier, Wait, WaitFault, DimFault, Fault, End, Item, Tape, World, Outcome, Goes, Stops, output}
 use Rattle.css_core.specs.Actions.{Directive, Starting, Finishing, AtBarrier, WaitingOn, NoDirective, directive_of}
 use Rattle.css_core.specs.Tasks.{is_started}
-use Rattle.css_core.specs.Worlds.{State, state_after, after, before_main, in_memory}
+use Rattle.css_core.specs.Worlds.{FlatState, flat_at, in_memory}
 
 -- ---- the rules of css_semantics
 
@@ -58,9 +57,9 @@ first_rule m limits tape (Some action) =
       | Some b ↦ first_broken (checks_of_task limits b action)
     ]
 
--- The first rule, in order of their numbers, that an item breaks after a tape. The first state is the one before main's entry.
-abbrev pub hit : State → Limits → Tape → Item → Option Rule
-hit start limits tape i = first_rule (state_after after start tape).memory limits (known_tape tape) (known i.action)
+-- The first rule, in order of their numbers, that an item breaks after a tape. The start is the state before main's entry.
+abbrev pub hit : FlatState → Limits → Tape → Item → Option Rule
+hit start limits tape i = first_rule (flat_at start tape).memory limits (known_tape tape) (known i.action)
 
 -- ---- the world
 
@@ -68,8 +67,8 @@ hit start limits tape i = first_rule (state_after after start tape).memory limit
 abbrev pub judging : (broken : Tape → Item → Option Rule) → World → World
 judging broken w tape i = judged_reply (broken tape i) (w tape i)
 
-abbrev pub judged_in : Limits → (input : List ℕ) → Program → World
-judged_in limits input p = judging (hit (before_main limits.memory input p) limits) (in_memory limits.memory input p)
+abbrev pub judged_in : Limits → (start : FlatState) → World
+judged_in limits start = judging (hit start limits) (in_memory start)
 
 -- ---- images
 
@@ -94,17 +93,17 @@ images_at m tape (WaitingOn address) line = wait_image m (pending (known_tape ta
 images_at m tape NoDirective line = []
 
 -- all images, the first first
-abbrev pub images : State → Tape → List Image
+abbrev pub images : FlatState → Tape → List Image
 images start [] = []
-images start (i ∷ tape) = images start tape ++ images_at (state_after after start tape).memory tape (directive_of i.action) i.line
+images start (i ∷ tape) = images start tape ++ images_at (flat_at start tape).memory tape (directive_of i.action) i.line
 
 -- ---- the verdict
 
-abbrev pub verdict_with : State → Tape → Ending → Verdict
+abbrev pub verdict_with : FlatState → Tape → Ending → Verdict
 verdict_with start tape ending = record { output = output tape; calls = calls (known_tape tape); images = images start tape; ending = ending }
 
 -- of a dialogue that the fuel didn't end
-abbrev pub verdict : State → Outcome ℤ → Option Verdict
+abbrev pub verdict : FlatState → Outcome ℤ → Option Verdict
 verdict start (Goes v tape) = Some (verdict_with start tape (endings.Result v))
 verdict start (Stops (Stopped stop line) tape) = Some (verdict_with start tape (endings.Stopped stop line (who_runs (inside (known_tape tape)))))
 verdict start (Stops Tired tape) = None
