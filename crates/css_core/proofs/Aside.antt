@@ -1,5 +1,5 @@
 -- What is asked aside: in the expressions of a wait, and in dimensions.
-use Rattle.std.proofs.Common.{IsTrue, ◌&&◌, ◌≡◌, ℕ, ℤ, Bool, true, false, Option, Some, None, if◌then◌else◌, List, [], ◌∷◌, refl, sym, ◌∙◌, subst}
+use Rattle.std.proofs.Common.{IsTrue, ◌&&◌, ◌≡◌, ℕ, ℤ, Bool, true, false, Option, Some, None, if◌then◌else◌, List, ◌∷◌, refl, sym, ◌∙◌, subst}
 use Rattle.css_base.specs.declared.ending.FaultKind.{FaultKind}
 use Rattle.css_base.specs.declared.ending.Stop.TheVariants as stops
 use Rattle.css_base.specs.declared.rule.Rule.{Rule}

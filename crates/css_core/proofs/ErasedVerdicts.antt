@@ -1,5 +1,5 @@
 -- A verdict is that of the program without tasks, and its images are of that program's memory.
-use Rattle.std.proofs.Common.{◌≡◌, inl, inr, ℕ, ◌≤◌, ◌==◌, ℤ, Bool, true, false, Option, Some, None, All, if◌then◌else◌, cond, List, [], ◌∷◌, ◌++◌, refl, sym, ap, ◌∙◌, subst, append_assoc, ⊎_elim, arith}
+use Rattle.std.proofs.Common.{◌≡◌, inl, inr, ℕ, ◌≤◌, ◌==◌, ℤ, Bool, true, false, Option, Some, None, All, cond, List, [], ◌∷◌, ◌++◌, refl, sym, ap, ◌∙◌, subst, append_assoc, ⊎_elim, arith}
 use Rattle.std.specs.Prelude.{find}
 use Rattle.std.proofs.lemmas.Bool.{cases_lt, eqb-true}
 use Rattle.std.proofs.lemmas.List.{append-nil}
@@ -8,7 +8,7 @@ use Rattle.std.proofs.lemmas.Option.{same_Some}
 use Rattle.css_base.specs.declared.limits.Limits.{Limits}
 use Rattle.css_base.specs.declared.ending.Stop.TheVariants as stops
 use Rattle.css_semantics.specs.Dialogue.{Stopped, Tired}
-use Rattle.css_semantics.specs.Memory.{Memory, image}
+use Rattle.css_semantics.specs.Memory.{Memory}
 use Rattle.css_semantics.specs.Pending.{Object, pending}
 use Rattle.css_semantics.specs.Verdict.{ImageKind, OfBarrier, OfFinish, OfWait, Image, bytes_of_window, Verdict}
 use Rattle.css_core.specs.Core.{Program}
@@ -18,12 +18,12 @@ use Rattle.css_core.specs.Tasks.{is_started}
 use Rattle.css_core.specs.Functions.{source}
 use Rattle.css_core.specs.Fuel.{Extends}
 use Rattle.css_core.specs.Worlds.{FlatState, flat_at, flat}
-use Rattle.css_core.specs.Judged.{known_tape, hit, judged_in, whole_image, wait_image, images_at, images, verdict}
+use Rattle.css_core.specs.Judged.{known_tape, hit, judged_in, whole_image, images_at, images, verdict}
 use Rattle.css_core.specs.Without.{without_tasks, IsQuietProgram}
 use Rattle.css_core.specs.Plain.{plain, IsQuietTape, entries}
 use Rattle.css_core.specs.Erased.{IsPassed, IsErased, Answers, IsImageOf, IsSeen}
 use Rattle.css_core.proofs.MoreFuel.{Grows, extends_source}
-use Rattle.css_core.proofs.Plain.{plain_append, quiet_append, same_state, same_output}
+use Rattle.css_core.proofs.Plain.{plain_append, same_state, same_output}
 use Rattle.css_core.proofs.Erasing.{erased_source, quiet_source}
 use Rattle.css_core.proofs.Judging.{erases}
 

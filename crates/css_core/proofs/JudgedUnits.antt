@@ -1,5 +1,5 @@
 -- Under the rules main and each task have units of their own.
-use Rattle.std.proofs.Common.{◌≡◌, ℕ, ◌+◌, ◌-◌, ◌≤◌, ◌<◌, Bool, true, false, not, if◌then◌else◌, Option, Some, None, is_none, option_map, List, [], ◌∷◌, refl, sym, ap, ◌∙◌, subst, arith}
+use Rattle.std.proofs.Common.{◌≡◌, ℕ, ◌+◌, ◌-◌, ◌≤◌, Bool, true, false, not, if◌then◌else◌, Option, Some, None, is_none, option_map, [], ◌∷◌, refl, sym, ap, ◌∙◌, subst, arith}
 use Rattle.std.proofs.lemmas.Bool.{leb-false}
 use Rattle.css_base.specs.declared.limits.Limits.{Limits}
 use Rattle.css_base.specs.declared.rule.Rule.{Rule}
@@ -11,7 +11,7 @@ use Rattle.css_semantics.specs.Tasks as tasks
 use Rattle.css_semantics.specs.Tasks.{Body, body_after, body, main_units}
 use Rattle.css_semantics.specs.Rules.{wants_unit, checks_of_main, checks_of_task, first_broken, judged_reply}
 use Rattle.css_semantics.proofs.Checks.{are_kept}
-use Rattle.css_core.specs.Dialogue.{Action, Enter, In, Malloc, Calls, Returns, WaitFault, DimFault, Item, Tape, World}
+use Rattle.css_core.specs.Dialogue.{Action, Enter, In, Malloc, Calls, Returns, WaitFault, DimFault, Item, Tape}
 use Rattle.css_core.specs.Actions.{is_of_calls}
 use Rattle.css_core.specs.Units.{unit_of}
 use Rattle.css_core.specs.Tasks.{is_inside}

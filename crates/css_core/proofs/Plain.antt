@@ -1,7 +1,7 @@
 -- Plain tapes.
-use Rattle.std.proofs.Common.{◌≡◌, ℕ, ◌+◌, ◌-◌, ◌≤◌, Bool, true, false, not, ◌||◌, if◌then◌else◌, List, [], ◌∷◌, ◌++◌, IsTrue, refl, sym, ap, ◌∙◌, arith}
+use Rattle.std.proofs.Common.{◌≡◌, ℕ, ◌+◌, ◌-◌, Bool, true, false, not, ◌||◌, if◌then◌else◌, List, [], ◌∷◌, ◌++◌, IsTrue, refl, sym, ap, ◌∙◌, arith}
 use Rattle.std.proofs.lemmas.List.{append-nil}
-use Rattle.css_core.specs.Dialogue.{Action, Enter, Load, Calls, Returns, Start, Finish, Barrier, Wait, Item, item, Tape, Outcome, tape_of, written_by, output}
+use Rattle.css_core.specs.Dialogue.{Action, Enter, Load, Calls, Returns, Start, Finish, Barrier, Wait, Item, item, Tape, written_by, output}
 use Rattle.css_core.specs.Actions.{is_load, is_of_tasks}
 use Rattle.css_core.specs.Units.{with_units, unit_of, spending}
 use Rattle.css_core.specs.Tasks.{is_started}

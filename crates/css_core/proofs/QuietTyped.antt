@@ -1,5 +1,5 @@
 -- In a program whose types fit, waits and dimensions do nothing but load.
-use Rattle.std.proofs.Common.{◌≡◌, ◌&&◌, Bool, true, false, IsTrue, Option, Some, None, List, [], ◌∷◌, map, refl, arith}
+use Rattle.std.proofs.Common.{◌&&◌, Bool, true, false, IsTrue, Option, Some, None, List, [], ◌∷◌, map, refl, arith}
 use Rattle.std.specs.Prelude.{All}
 use Rattle.std.proofs.lemmas.List.Elements.{All-head, All-tail, All-cons}
 use Rattle.css_base.specs.declared.int_type.IntType.{IntType}

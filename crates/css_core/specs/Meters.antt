@@ -1,5 +1,5 @@
 -- Worlds that end by their units.
-use Rattle.std.specs.Prelude.{◌≡◌, ℕ, ◌+◌, ◌-◌, ◌≤◌, ◌<◌, [], ◌∷◌, Bool, true, false, if◌then◌else◌}
+use Rattle.std.specs.Prelude.{◌≡◌, ℕ, ◌+◌, ◌-◌, ◌≤◌, [], ◌∷◌, true, false, if◌then◌else◌}
 use Rattle.css_semantics.specs.Dialogue.{Says}
 use Rattle.css_core.specs.Dialogue.{Item, Tape, World}
 use Rattle.css_core.specs.Actions.{taking_of, is_of_calls}

@@ -1,6 +1,6 @@
 -- A tape without what it says of tasks.
 use Rattle.std.specs.Prelude.{ℕ, ◌+◌, not, ◌||◌, [], ◌∷◌, IsTrue, if◌then◌else◌}
-use Rattle.css_core.specs.Dialogue.{Item, Tape}
+use Rattle.css_core.specs.Dialogue.{Tape}
 use Rattle.css_core.specs.Actions.{is_load, is_of_tasks}
 use Rattle.css_core.specs.Units.{unit_of}
 

@@ -1,5 +1,5 @@
 -- Worked programs under the rules, each with its text, and what they come to by hand.
-use Rattle.std.specs.Prelude.{ℕ, ◌+◌, ℤ, pos, true, false, List, [], ◌∷◌, ◌++◌, Option, Some, None, option_map}
+use Rattle.std.specs.Prelude.{ℕ, ◌+◌, pos, true, false, List, [], ◌∷◌, ◌++◌, Option, Some, None, option_map}
 use Rattle.css_base.specs.declared.direction.Direction.{Direction}
 use Rattle.css_base.specs.declared.direction.Direction.TheVariants.{In, Out, InOut}
 use Rattle.css_base.specs.declared.ending.Ending.{Ending}
@@ -11,16 +11,14 @@ use Rattle.css_base.specs.declared.rule.Rule.{Rule}
 use Rattle.css_base.specs.declared.int_type.IntType.{IntType}
 use Rattle.css_base.specs.declared.int_type.IntType.TheVariants.{Int, UInt}
 use Rattle.css_num.specs.declared.operators.UnOp.TheVariants as unary
-use Rattle.css_num.specs.declared.operators.BinOp.{BinOp}
 use Rattle.css_num.specs.declared.operators.BinOp.TheVariants as binary
 use Rattle.css_semantics.specs.Verdict.{OfFinish, OfWait, Image, Verdict}
 use Rattle.css_core.specs.Core as core
 use Rattle.css_core.specs.Core.{Expression, Number, Local, Value, Call, Input, Print, Expressions, Empty, More, Old, New, Signed, Unsigned, Literal, Shown, Piece, Statement, Eval, Block, If, Loop, Return, Mark, Await, Statements, Nothing, Then, Part, Scalar, Window, Task, Function, Datum, Program}
-use Rattle.css_core.specs.Dialogue.{Outcome}
 use Rattle.css_core.specs.Functions.{source}
 use Rattle.css_core.specs.Worlds.{start_of}
 use Rattle.css_core.specs.Judged.{judged_in, verdict}
-use Rattle.css_core.specs.Elaboration.{Operand, in_type, unary_of, binary_of, assigned, updated, stepped, pointer, element}
+use Rattle.css_core.specs.Elaboration.{Operand, in_type, unary_of, binary_of, assigned, updated, stepped, element}
 
 -- ---- what a row shows
 
