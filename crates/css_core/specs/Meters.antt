@@ -1,0 +1,38 @@
+-- Worlds that end by their units.
+use Rattle.std.specs.Prelude.{◌≡◌, ℕ, ◌+◌, ◌-◌, ◌≤◌, [], ◌∷◌, true, false, if◌then◌else◌}
+use Rattle.css_semantics.specs.Dialogue.{Says}
+use Rattle.css_core.specs.Dialogue.{Item, Tape, World}
+use Rattle.css_core.specs.Actions.{taking_of, is_of_calls}
+use Rattle.css_core.specs.Units.{unit_of, metered_by}
+use Rattle.css_core.specs.Tasks.{is_inside}
+
+-- A world ends by the units that it has at a tape: nothing that it lets go on gives any, and each entry takes one.
+pub record Spends (w : World) (units_at : Tape → ℕ) : Type 0 where
+  pub asks : (i : Item) (tape : Tape) (value : ℕ) → w tape i ≡ Says value → units_at (i ∷ tape) + unit_of i.action ≤ units_at tape
+
+-- The same where main and each task have units of their own: a task's call begins with at most so many.
+pub record SpendsApart (w : World) (main_units task_units : Tape → ℕ) (most : ℕ) : Type 0 where
+  -- outside of tasks main spends
+  pub asks : (i : Item) (tape : Tape) (value : ℕ) → is_inside tape ≡ false → w tape i ≡ Says value → main_units (i ∷ tape) + unit_of i.action ≤ main_units tape
+  pub begins : (i : Item) (tape : Tape) (value : ℕ) → is_inside tape ≡ false → is_inside (i ∷ tape) ≡ true → w tape i ≡ Says value → task_units (i ∷ tape) ≤ most
+  -- inside of one the task does, up to its return, and main gets none
+  pub asks_inside : (i : Item) (tape : Tape) (value : ℕ) → is_of_calls i.action ≡ false → is_inside tape ≡ true → w tape i ≡ Says value → task_units (i ∷ tape) + unit_of i.action ≤ task_units tape
+  pub keeps_inside : (i : Item) (tape : Tape) (value : ℕ) → is_inside tape ≡ true → w tape i ≡ Says value → main_units (i ∷ tape) ≤ main_units tape
+
+-- ---- a world in which main and each task have so many units
+
+-- what is left to main, and to the task that runs
+abbrev pub main_left : ℕ → Tape → ℕ
+main_left units [] = units
+main_left units (i ∷ tape) = if is_inside tape then main_left units tape else main_left units tape - unit_of i.action
+
+abbrev pub task_left : ℕ → Tape → ℕ
+task_left units [] = units
+task_left units (i ∷ tape) = if is_inside tape then task_left units tape - unit_of i.action else units
+
+abbrev pub units_left : (main task : ℕ) → Tape → ℕ
+units_left main task tape = if is_inside tape then task_left task tape else main_left main tape
+
+-- it refuses what another one lets go on, where no unit is left
+abbrev pub metering : (main task : ℕ) → World → World
+metering main task w tape i = metered_by (taking_of i.action) (units_left main task tape) (w tape i)
