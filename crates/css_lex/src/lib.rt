@@ -16,5 +16,5 @@ mod words;
 
 pub use breach::Breach;
 pub use css_lexemes::erase;
-pub use laws::one_lexing;
+pub use laws::{lexed_or_refused, one_lexing};
 pub use lexing::lex;

@@ -11,5 +11,5 @@ mod statements;
 mod tree;
 mod tree_fault;
 
-pub use front::{numbers_fit, one_reading, read_program};
+pub use front::{never_neither, numbers_fit, one_reading, read_program};
 pub use tree::{Directive, Expression, Function, Program, Statement};

@@ -2,7 +2,7 @@
 #![tactic(auto)]
 
 ghost use Rattle.std.specs.Prelude.{◌≡◌, ◌≢◌, [], IfErr, IsErr, IsOkAnd};
-ghost use Rattle.std_io.specs.IoError.{error_kind};
+ghost use Rattle.std.specs.IoError.{error_kind};
 
 use css_base::{NoMemory, Words};
 use css_driver::{no_memory_for_words, top};
