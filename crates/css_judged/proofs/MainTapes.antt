@@ -62,7 +62,7 @@ no_call _ machine = refl
 pub stays : (limits : Limits) (start : FlatState) (tape : Tape) (s : Metered Judged) (more : Tape) → IsMainAt limits start tape s → AreOfMachine more → IsMainAt limits start (more ++ tape) (state_after (spending main_after) s more)
 stays limits start tape s [] at machine = at
 stays limits start tape s (i ∷ more) at machine =
-    acts limits start (more ++ tape) (state_after (spending main_after) s more) i (no_call i.action machine.0) (stays limits tape s more at machine.1)
+    acts limits start (more ++ tape) (state_after (spending main_after) s more) i (no_call i.action machine.0) (stays limits start tape s more at machine.1)
 
 -- ---- replies
 

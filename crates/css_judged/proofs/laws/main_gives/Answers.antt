@@ -8,4 +8,4 @@ pub returns-clause-within : goal.returns-clause-within
 returns-clause-within c = call_within
 
 pub returns-clause-clear : goal.returns-clause-clear
-returns-clause-clear c = call_clear
+returns-clause-clear c limits start tape s base begun at low none = call_clear limits start tape s base begun at none low
