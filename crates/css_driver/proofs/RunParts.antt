@@ -68,7 +68,7 @@ module _ {S : Type 0} (told : S → Option (List ℕ)) (faults : S → ℕ) (cod
 
   -- the last part of a run from main's entry
   pub ran_whole : (start : FlatState) (units line : ℕ) (out out' : S) (ran : Ran) → line ≡ entry_line (slice_get code.functions code.main)
-      → EndsRun code (Begin code.main [] line) (with_units start.start units) [] (change told faults out out') ran
+      → EndsRun code (Begin code.main [] line) (with_units start.memory units) [] (change told faults out out') ran
       → (o : Outcome ℤ) (ending : Ending) → ComesTo start units code o → ending_of o ≡ Some ending → RanAs ending (output (tape_of o)) (change told faults out out') ran
   ran_whole start units line out out' ran at last o ending comes is =
       let ends = last start units o ending [] is (running_begun start units code o line at comes) in

@@ -127,9 +127,9 @@ module _ (code : Code) (plain : HasNoMarks code) (start : FlatState) (units : �
       pub none : is_started later ≡ false
 
     comes : (e : Event) → (reaches : Reaches (metered memory_reply) (spending after) code old space e new space') → (run : Running start units code o old space written)
-        → (c : Comes e run) × (state_after (spending after) (with_units start.start units) c.later ≡ reaches.end)
+        → (c : Comes e run) × (state_after (spending after) (with_units start.memory units) c.later ≡ reaches.end)
     comes e reaches run =
-        let from = with_units start.start units in
+        let from = with_units start.memory units in
         let follows : Follows (flat start units) (metered memory_reply) (spending after) run.so_far space =
         subst (λ s. Follows (flat start units) (metered memory_reply) (spending after) run.so_far s) run.space_is (flat-follows start units run.so_far) in
         let there = reaches.does (flat start units) run.so_far follows in
@@ -205,7 +205,7 @@ module _ (code : Code) (plain : HasNoMarks code) (start : FlatState) (units : �
 
 -- a whole run is on its way from main's entry
 pub running_begun : (start : FlatState) (units : ℕ) (code : Code) (o : Outcome ℤ) (line : ℕ) → line ≡ entry_line (slice_get code.functions code.main) → ComesTo start units code o
-    → Running start units code o (Begin code.main [] line) (with_units start.start units) []
+    → Running start units code o (Begin code.main [] line) (with_units start.memory units) []
 running_begun start units code o line is (n, goes) =
     let w = flat start units in
     record {

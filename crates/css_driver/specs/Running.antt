@@ -38,7 +38,7 @@ pub record Running (start : FlatState) (units : ℕ) (code : Code) (o : Outcome 
   pub steps : ℕ
   pub so_far : Tape
   pub goes : then_do (exec (flat start units) code steps state so_far) (main_ends (flat start units) (main_frame code)) ≡ halted o
-  pub space_is : state_after (spending after) (with_units start.start units) so_far ≡ space
+  pub space_is : state_after (spending after) (with_units start.memory units) so_far ≡ space
   pub written_is : output so_far ≡ written
   pub no_tasks : is_started so_far ≡ false
 
