@@ -1,9 +1,8 @@
 -- What the tests submit may be submitted, and what it makes can be fetched.
-use Rattle.std.proofs.Common.{◌≡◌, ◌≤◌, ◌+◌, ℕ, List, [], ◌∷◌, ◌++◌, length, All, lit≤, lit<, refl, sym, ◌∙◌, ap, ap₂, subst, arith, true}
+use Rattle.std.proofs.Common.{◌≡◌, ◌≤◌, ◌+◌, ℕ, List, [], ◌∷◌, ◌++◌, length, All, lit<, refl, sym, ◌∙◌, ap, ap₂, subst, arith, true}
 use Rattle.std.specs.List.{slice_get}
 use Rattle.std.proofs.lemmas.List.Elements.{All-nil, All-cons}
 use Rattle.css_base.specs.declared.limits.Limits.{Limits}
-use Rattle.css_base.specs.declared.limits.Limits.TheConstants.{DEFAULT}
 use Rattle.css_record.specs.declared.task_record.TaskRecord.{TaskRecord}
 use Rattle.css_record.specs.declared.version.VersionName.{VersionName}
 use Rattle.css_record.specs.declared.version.VersionName.TheVariants as names
@@ -28,8 +27,8 @@ one_last (x ∷ before) first last is =
 given_fits : (submits : List Submit) (given : List (List ℕ)) (place : ℕ) → place ≡ 0 → IsGiven given → FitsInput task_code submits given (names.Given place) the_use
 given_fits submits given place is (bytes, are, long) = (bytes, ap₂ (λ xs k. slice_get xs k) are is, long)
 
-pub store_of : (limits : Limits) → limits ≡ DEFAULT → 32768 ≤ limits.local_store
-store_of limits is = subst (λ (l : Limits). 32768 ≤ l.local_store) (sym is) (lit≤ tt)
+pub store_of : (limits given : Limits) → limits ≡ given → 32768 ≤ given.local_store → 32768 ≤ limits.local_store
+store_of limits given is store = subst (λ (l : Limits). 32768 ≤ l.local_store) (sym is) store
 
 pub fresh_has : (y : OrderYard) → y.code ≡ task_code → 32768 ≤ y.limits.local_store → y.state ≡ fresh → HasNone y
 fresh_has y code store state = record {

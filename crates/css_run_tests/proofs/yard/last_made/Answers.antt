@@ -1,4 +1,4 @@
-use Rattle.std.proofs.Common.{List, ◌∙◌, sym, subst}
+use Rattle.std.proofs.Common.{List, ◌∙◌, sym, subst, lit≤}
 use Rattle.css_vm.specs.Code.{Code}
 use Rattle.css_vm.specs.Soundness.{Spot, IsSound}
 use Rattle.css_run_tests.proofs.Sound.{task_sound}
@@ -9,7 +9,7 @@ pub new-requires-clause-sound : goal.new-requires-clause-sound
 new-requires-clause-sound c = subst (λ (code : Code). (plans : List (List Spot)) × IsSound code plans) (sym c.requires) task_sound
 
 pub loop-task-init : goal.loop-task-init
-loop-task-init c = fresh_has c.in_ok-yard.yard (c.in_ok-yard.ensures.code ∙ c.requires) (store_of _ c.in_ok-yard.ensures.limits) c.in_ok-yard.ensures.state
+loop-task-init c = fresh_has c.in_ok-yard.yard (c.in_ok-yard.ensures.code ∙ c.requires) (store_of _ _ c.in_ok-yard.ensures.limits (lit≤ tt)) c.in_ok-yard.ensures.state
 
 pub submit-requires-clause-may : goal.submit-requires-clause-may
 submit-requires-clause-may c =
