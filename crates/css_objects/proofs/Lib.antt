@@ -5,3 +5,6 @@ pub mod Rows
 pub mod Tables
 pub mod Probes
 pub mod Edits
+pub mod Inserts
+pub mod Keeping
+pub mod Taking

@@ -2,7 +2,8 @@
 use Rattle.std.proofs.Common.{◌≡◌, ◌≢◌, ℕ, zero, suc, ◌+◌, ◌*◌, ◌<◌, ◌≤◌, Bool, true, false, not, ◌&&◌, ◌||◌, List, [], ◌∷◌, ◌++◌, length, map, slice_get, Option, Some, None, MatchOption, ◌⊎◌, inl, inr, refl, sym, ap, ◌∙◌, subst, All, arith, eqb}
 use Rattle.std.specs.List.{list_any}
 use Rattle.std.proofs.lemmas.List.Elements.{All-head, All-tail}
-use Rattle.std.proofs.lemmas.Bool.{cases_order, false≢true, and_parts, eqb-true, false_from_ne_true}
+use Rattle.std.proofs.lemmas.Bool.{cases_order, false≢true, and_parts, eqb-true, ne_eqb, false_from_ne_true}
+use Rattle.std.proofs.lemmas.Option.{slice_get_within}
 use Rattle.css_semantics.specs.Tasks.{is_same_window}
 use Rattle.css_semantics.specs.Pending.{Object}
 use Rattle.css_semantics.specs.Rules.{share_byte}
@@ -13,11 +14,12 @@ use Rattle.css_objects.specs.declared.ordered.Found.{Found}
 use Rattle.css_objects.specs.declared.pending.Probe.{Probe}
 use Rattle.css_objects.specs.declared.pending.Pending.{Pending}
 use Rattle.css_objects.specs.declared.pending.Probe.TheVariants as probes
-use Rattle.css_objects.specs.Ordered.{Stands}
+use Rattle.css_objects.specs.Ordered.{bases, Stands, HasNone}
 use Rattle.css_objects.specs.Found.{Each, NoneShares, IsLastSharing}
 use Rattle.css_objects.specs.Table.{Entry, Table, windows, object, objects, all_entries, IsTable}
 use Rattle.css_objects.specs.Seen.{ShowsAt, IsShown, Crosses, IsProbe, IsSeen}
 use Rattle.css_objects.proofs.Ranges.{share-sym, share_is_rows, share_by, rows_by}
+use Rattle.css_objects.proofs.Searches.{base_at}
 use Rattle.css_objects.proofs.Lists.{any_none, at_place, map_place, place_map, place_left, place_right}
 
 -- ---- places
@@ -147,3 +149,28 @@ module _ (rows blocks : List Entry) (written : List coded.Window) (is : IsTable 
         let found = map_place (λ (x : Entry). x.window) blocks f.place f.window last.stands in
         probed (length rows + f.place) found.0 f (place_right rows blocks f.place found.0 found.1) found.2 last.shares of_rows (λ i v at. last.greatest i v at) blocks
         (λ q shown. record { entry = shown.entry; at = place_right rows blocks f.place shown.entry shown.at; shows = shown.shows }) p seen
+
+-- ---- objects that are lent
+
+pub shows_left : (rows blocks : List Entry) (place : ℕ) (p : Pending) → ShowsAt rows place p → ShowsAt (rows ++ blocks) place p
+shows_left rows blocks place p shown = record { entry = shown.entry; at = place_left rows blocks place shown.entry shown.at; shows = shown.shows }
+
+pub shows_right : (rows blocks : List Entry) (place : ℕ) (p : Pending) → ShowsAt blocks place p → ShowsAt (rows ++ blocks) (length rows + place) p
+shows_right rows blocks place p shown = record { entry = shown.entry; at = place_right rows blocks place shown.entry shown.at; shows = shown.shows }
+
+pub none_at_base : (rows blocks : List Entry) (base : ℕ) → HasNone (windows rows) base → HasNone (windows blocks) base
+    → list_any (λ o. eqb o.window.base base) (map object (rows ++ blocks)) ≡ false
+none_at_base rows blocks base of_rows of_blocks =
+    any_none (λ o. eqb o.window.base base) (map object (rows ++ blocks))
+    (λ i o of_o.
+        let found = map_place object (rows ++ blocks) i o of_o in
+        subst (λ (x : Object). eqb x.window.base base ≡ false) found.2
+        (ne_eqb found.0.window.base base (λ same.
+            elim (place_split rows blocks i found.0 found.1) [
+              | inl here ↦
+                  let at = place_map (λ (x : Entry). x.window) rows i found.0 here in
+                  of_rows i (slice_get_within (windows rows) i found.0.window at) (base_at (windows rows) i found.0.window at ∙ same)
+              | inr later ↦
+                  let at = place_map (λ (x : Entry). x.window) blocks later.0 found.0 later.2 in
+                  of_blocks later.0 (slice_get_within (windows blocks) later.0 found.0.window at) (base_at (windows blocks) later.0 found.0.window at ∙ same)
+            ])))

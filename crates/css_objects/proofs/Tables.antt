@@ -7,7 +7,8 @@ use Rattle.std.proofs.lemmas.Option.{slice_get_read, slice_get_within}
 use Rattle.std.proofs.lemmas.List.Folds.{list_any-append}
 use Rattle.std.proofs.Math.Nat.{pow-succ'}
 use Rattle.std.proofs.Common.{lit<}
-use Rattle.std.proofs.lemmas.Bool.{cases_order, false≢true, or_left, or_right, and_parts, eqb-true, eq-eqb, or_parts}
+use Rattle.std.proofs.lemmas.Bool.{cases_order, false≢true, or_left, or_right, and_parts, eqb-true, eq-eqb, or_parts, or_from}
+use Rattle.std.proofs.Common.{is_none}
 use Rattle.css_semantics.specs.Tasks.{has_byte, is_same_window}
 use Rattle.css_semantics.specs.Pending.{Object, some_from}
 use Rattle.css_semantics.specs.Rules.{share_byte, meets}
@@ -20,7 +21,7 @@ use Rattle.css_objects.specs.declared.version.Held.{Held}
 use Rattle.css_objects.specs.Ranges.{window_meets}
 use Rattle.css_objects.specs.Ordered.{bases, Stands, HasNone, IsOfBase, IsSearch}
 use Rattle.css_objects.specs.Found.{Each, IsRow, AreRows, NoneMeets, IsLastMeeting, NoneShares, IsLastSharing, TakesAtMost}
-use Rattle.css_objects.specs.Table.{Entry, Table, entries, windows, is_written, object, objects, all_entries, IsBlock, IsTable}
+use Rattle.css_objects.specs.Table.{Entry, Table, entries, windows, maker, is_written, object, objects, all_entries, IsBlock, IsTable}
 use Rattle.css_objects.proofs.Ranges.{some_is_range, same_test}
 use Rattle.css_objects.proofs.Searches.{base_at}
 use Rattle.css_objects.proofs.Rows.{search_takes}
@@ -118,8 +119,8 @@ written-few rows blocks written is =
     omega (arith, length-filter is_written rows, length-map (filter is_written rows) (λ e. e.window), ap length is.written_are)
 
 -- a search, and what is scanned behind it
-pub one_search : (count searched scanned old middle new : ℕ) → searched ≤ count → IsSearch searched old middle → middle ≤ new → new ≤ middle + scanned → TakesAtMost count scanned 1 old new
-one_search count searched scanned old middle new fewer search grows scan depth enough =
+pub one_search : (count searched scanned old middle new : ℕ) → searched ≤ count → IsSearch searched old middle → new ≤ middle + scanned → TakesAtMost count scanned 1 old new
+one_search count searched scanned old middle new fewer search scan depth enough =
     omega (arith, search_takes searched old middle depth search (omega (arith, enough)), scan)
 
 -- no more than the searches
@@ -182,3 +183,46 @@ pub met_end : (es : List Entry) (from to place : ℕ) → length es ≤ place �
 unfolding NoneMet
 met_end es from to place over none =
     any_none (λ e. is_written e && window_meets (window e.window) from to) es (λ i e at. none i e (omega (arith, over, slice_get_within es i e at)) at)
+
+-- ---- what the table answers
+
+pub written_answer : (rows blocks : List Entry) (written : List coded.Window) (t : Table) → IsTable rows blocks written → (let whole : Table = record { rows = rows; blocks = blocks } in whole ≡ t)
+    → (address count : ℕ) (r b : Bool) → 1 ≤ count → r ≡ list_any (λ w. window_meets (window w) address (address + count)) written
+    → b ≡ list_any (λ e. is_written e && window_meets (window e.window) address (address + count)) blocks → (r || b) ≡ meets (λ o. o.is_written) (objects t) address count
+written_answer rows blocks written t is view address count r b some row block =
+    ap (λ x. x || b) row ∙ ap (λ x. list_any (λ w. window_meets (window w) address (address + count)) written || x) block
+    ∙ sym (written_any address count some rows blocks written is)
+    ∙ ap (λ (x : Table). meets (λ o. o.is_written) (objects x) address count) view
+
+neither : (r b : Option Found) → (is_none r && is_none b) ≡ not (is_some r || is_some b)
+neither None None = refl
+neither None (Some f) = refl
+neither (Some f) b = refl
+
+pub frame_answer : (rows blocks : List Entry) (t : Table) → (let whole : Table = record { rows = rows; blocks = blocks } in whole ≡ t)
+    → (w : coded.Window) (r b : Option Found) → MatchOption r (NoneShares (windows rows) w) (IsLastSharing (windows rows) w)
+    → MatchOption b (NoneShares (windows blocks) w) (IsLastSharing (windows blocks) w)
+    → (is_none r && is_none b) ≡ not (list_any (λ o. share_byte (window w) o.window) (objects t))
+frame_answer rows blocks t view w r b row block =
+    neither r b
+    ∙ ap (λ x. not (x || is_some b)) (sym (sharing_any (windows rows) w r row))
+    ∙ ap (λ x. not (list_any (λ v. share_byte (window w) (window v)) (windows rows) || x)) (sym (sharing_any (windows blocks) w b block))
+    ∙ ap not (sym (shares_any rows blocks w))
+    ∙ ap (λ (x : Table). not (list_any (λ o. share_byte (window w) o.window) (objects x))) view
+
+pub nothing_answer : (rows blocks : List Entry) (w : coded.Window) → NoneShares (windows rows) w → NoneShares (windows blocks) w
+    → list_any (λ o. share_byte (window w) o.window) (map object (rows ++ blocks)) ≡ false
+nothing_answer rows blocks w of_rows of_blocks =
+    shares_any rows blocks w
+    ∙ or_from (list_any (λ v. share_byte (window w) (window v)) (windows rows)) (list_any (λ v. share_byte (window w) (window v)) (windows blocks))
+    (sharing_any (windows rows) w None of_rows) (sharing_any (windows blocks) w None of_blocks)
+
+-- an object that is read at a place
+pub met_entry : (es : List Entry) (i : ℕ) (w : coded.Window) (v : Held) (e : Entry) (from to : ℕ) (written met answer : Bool) → slice_get es i ≡ Some (record { window = w; version = v })
+    → slice_get es i ≡ Some e → written ≡ is_some (maker v) → met ≡ window_meets (window w) from to → answer ≡ (written && met) → answer ≡ (is_written e && window_meets (window e.window) from to)
+met_entry es i w v e from to written met answer here at is_w is_m is =
+    subst (λ (x : Entry). answer ≡ (is_written x && window_meets (window x.window) from to)) (some_same (record { window = w; version = v }) e (sym here ∙ at))
+    (is ∙ ap (λ b. b && met) is_w ∙ ap (λ b. is_some (maker v) && b) is_m)
+  where
+    some_same : (x y : Entry) → Some x ≡ Some y → x ≡ y
+    some_same x y e = cc

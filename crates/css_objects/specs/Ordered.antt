@@ -44,3 +44,9 @@ HasNone windows base = (i : ℕ) → i < length windows → slice_index (bases w
 pub record IsSearch (count old new : ℕ) : Type 0 where
   pub grows : old ≤ new
   pub few : 2 ^ (new - old) ≤ 2 * count + 1
+
+-- a window of this base would stand at a place
+pub record IsGap (windows : List Window) (place base : ℕ) : Type 0 where
+  pub within : place ≤ length windows
+  pub below : (i : ℕ) → i < place → slice_index (bases windows) i < base
+  pub above : (i : ℕ) → place ≤ i → i < length windows → base < slice_index (bases windows) i

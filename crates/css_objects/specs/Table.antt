@@ -1,5 +1,5 @@
 -- The table of pending objects.
-use Rattle.std.specs.Prelude.{◌≡◌, ◌≤◌, ◌<◌, ℕ, Bool, true, false, List, [], ◌∷◌, ◌++◌, length, map, filter, is_some, slice_get, Option, Some, None, All}
+use Rattle.std.specs.Prelude.{◌≡◌, ◌≤◌, ◌<◌, ℕ, Bool, true, false, not, ◌==◌, List, [], ◌∷◌, ◌++◌, length, map, filter, is_some, slice_get, Option, Some, None, All}
 use Rattle.css_semantics.specs.Pending.{Object}
 use Rattle.css_semantics.specs.Clear.{AreApart}
 use Rattle.css_record.specs.declared.window.Window.{Window}
@@ -42,6 +42,14 @@ objects t = map object (all_entries t)
 
 abbrev pub windows : List Entry → List Window
 windows es = map (λ e. e.window) es
+
+-- a window of another base
+abbrev pub is_other : (base : ℕ) → Window → Bool
+is_other base w = not (w.base == base)
+
+-- without the object of a base
+abbrev pub without : (base : ℕ) → List Entry → List Entry
+without base es = filter (λ e. is_other base e.window) es
 
 -- windows, each with its version
 abbrev pub entries : List Window → List Held → List Entry

@@ -1,9 +1,10 @@
 //! Windows in order of base.
-ghost use Rattle.std.specs.Prelude.{◌≡◌, ◌+◌, ◌*◌, ◌^◌, ◌<◌, ◌≤◌, ℕ, [], ◌∷◌, length, map, slice_get, slice_index, Some, OnOk, IfOk, MatchOption};
-ghost use Rattle.css_objects.specs.Ordered.{bases, StandAbove, IsAscending, IsLastBelow, IsOfBase, HasNone, IsSearch};
+ghost use Rattle.std.specs.Prelude.{◌≡◌, ◌+◌, ◌*◌, ◌^◌, ◌<◌, ◌≤◌, ℕ, [], ◌∷◌, length, slice_get, Some, MatchOption};
+ghost use Rattle.std.specs.List.{filter, remove};
+ghost use Rattle.css_objects.specs.Table.{is_other};
+ghost use Rattle.css_objects.specs.Ordered.{StandAbove, IsAscending, IsLastBelow, IsOfBase, HasNone, IsSearch};
 
 use crate::steps::Steps;
-use css_base::NoMemory;
 use css_record::Window;
 use indexmap::IndexMap;
 use std::alloc::Global;
@@ -104,6 +105,53 @@ impl Ordered {
             }
         }
         found
+    }
+
+    /// Without the window at a place.
+    pub(crate) fn remove(&mut self, place: usize)
+        requires { place < length self.old }
+        ensures rest { self.new ≡ remove self.old place }
+        ensures ascends { IsAscending self.new }
+    {
+        let _removed = self.windows.shift_remove_index(place);
+    }
+
+    /// Without the window of a base, if there is one.
+    pub(crate) fn drop_base(&mut self, base: u32)
+        ensures rest { self.new ≡ filter (is_other base) self.old }
+        ensures ascends { IsAscending self.new }
+    {
+        match self.found(base) {
+            Some(f) => self.remove(f.place),
+            None => {}
+        }
+    }
+
+    /// The window of a base, where no steps are counted.
+    pub(crate) fn found(&self, base: u32) -> Option<Found>
+        ensures found { MatchOption result (HasNone self.now base) (IsOfBase self.now base) }
+        ensures ascends { IsAscending self.now }
+    {
+        let _count = self.len();
+        self.find_from::<Brand>(base, Blank::new(1))
+    }
+
+    // The same, with a ledger for its steps.
+    fn find_from<L: Ledger>(&self, base: u32, blank: Blank) -> Option<Found>
+        requires name { blank.name ≡ L.name }
+        requires parts { blank.parts ≡ L.parts }
+        requires some { 0 < L.parts }
+        ensures { MatchOption result (HasNone self.now base) (IsOfBase self.now base) }
+    {
+        let mut steps = Steps::<L>::new(blank);
+        self.find(base, &mut steps)
+    }
+
+    /// Without any window.
+    pub(crate) fn clear(&mut self)
+        ensures { self.new ≡ [] }
+    {
+        self.windows.clear();
     }
 
     /// The window of a base.

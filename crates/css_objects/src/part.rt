@@ -1,11 +1,11 @@
 //! Objects in order of base.
 ghost use Rattle.std.specs.Prelude.{◌≡◌, ◌+◌, ◌<◌, ◌≤◌, ◌&&◌, ℕ, [], length, slice_get, Some, MatchOption};
-ghost use Rattle.std.specs.List.{list_any};
+ghost use Rattle.std.specs.List.{list_any, remove};
 ghost use Rattle.css_record.specs.Windows as records;
-ghost use Rattle.css_objects.specs.Ordered.{HasNone, IsOfBase, IsSearch};
+ghost use Rattle.css_objects.specs.Ordered.{HasNone, IsAscending, IsOfBase, IsSearch};
 ghost use Rattle.css_objects.specs.Found.{Each, AreRows, NoneShares, IsLastSharing, TakesAtMost};
 ghost use Rattle.css_objects.specs.Ranges.{window_meets};
-ghost use Rattle.css_objects.specs.Table.{Entry, windows as windows_of, is_written, IsBlock};
+ghost use Rattle.css_objects.specs.Table.{Entry, windows as windows_of, is_written, without, IsBlock};
 ghost use Rattle.css_objects.specs.Seen.{ShowsAt, IsSeen};
 
 use crate::ordered::{Found, Ordered};
@@ -146,6 +146,43 @@ impl Part {
             }
         }
         false
+    }
+
+    /// Without the object at a place.
+    pub(crate) fn remove(&mut self, place: usize)
+        requires { place < length self.old }
+        ensures rest { self.new ≡ remove self.old place }
+        ensures ascends { IsAscending (windows_of self.new) }
+    {
+        self.windows.remove(place);
+        let _version = self.versions.remove(place);
+    }
+
+    /// Without the object of a base, if there is one.
+    pub(crate) fn drop_base(&mut self, base: u32)
+        ensures rest { self.new ≡ without base self.old }
+        ensures ascends { IsAscending (windows_of self.new) }
+    {
+        match self.found(base) {
+            Some(f) => self.remove(f.place),
+            None => {}
+        }
+    }
+
+    // The window of a base, where no steps are counted.
+    fn found(&self, base: u32) -> Option<Found>
+        ensures found { MatchOption result (HasNone (windows_of self.now) base) (IsOfBase (windows_of self.now) base) }
+        ensures ascends { IsAscending (windows_of self.now) }
+    {
+        self.windows.found(base)
+    }
+
+    /// Without any object.
+    pub(crate) fn clear(&mut self)
+        ensures { self.new ≡ [] }
+    {
+        self.windows.clear();
+        self.versions.clear();
     }
 
     // The window at a place, which is one step.

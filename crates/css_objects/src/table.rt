@@ -1,13 +1,13 @@
 //! The table of pending objects.
-ghost use Rattle.std.specs.Prelude.{◌≡◌, ◌==◌, ◌≢◌, ◌+◌, ◌≤◌, ℕ, not, length, slice_get, Some, MatchOption};
+ghost use Rattle.std.specs.Prelude.{filter, false, ◌≡◌, ◌==◌, ◌≢◌, ◌+◌, ◌≤◌, ℕ, not, length, slice_get, Some, MatchOption};
 ghost use Rattle.std.specs.List.{list_any};
 ghost use Rattle.css_semantics.specs.Rules.{share_byte, meets};
 ghost use Rattle.css_record.specs.Windows as records;
-ghost use Rattle.css_objects.specs.Found.{TakesAtMost};
-ghost use Rattle.css_objects.specs.Table.{no_objects, all_entries, objects};
-ghost use Rattle.css_objects.specs.Seen.{ShowsAt, IsShown, IsProbe};
+ghost use Rattle.css_objects.specs.Found.{NoneShares, IsLastSharing, TakesAtMost};
+ghost use Rattle.css_objects.specs.Table.{no_objects, all_entries, objects, windows, without};
+ghost use Rattle.css_objects.specs.Seen.{ShowsAt, IsProbe};
 
-use crate::ordered::Ordered;
+use crate::ordered::{Found, Ordered};
 use crate::part::Part;
 use crate::pending::{Pending, Probe};
 use crate::search::any_meeting;
@@ -86,9 +86,9 @@ impl ObjectTable {
         ensures answer { result ≡ not (list_any (λ o. share_byte (records.window window) o.window) (objects self.now)) }
         ensures cost { TakesAtMost (length self.now.rows) (length self.now.blocks) window.rows steps.old steps.new }
     {
-        let row = self.rows.last_row(&window, steps);
-        let block = self.blocks.last_block(&window, steps);
-        row.is_none() && block.is_none()
+        let row = self.rows.last_row(&window, steps).is_none();
+        let block = self.blocks.last_block(&window, steps).is_none();
+        row && block
     }
 
     /// The pending object at a place of the table: those of one row in order of base, and then the others in order of base.
@@ -107,18 +107,24 @@ impl ObjectTable {
         None
     }
 
-    /// The pending object of a base.
-    pub fn pending_at<L: Ledger>(&self, base: u32, steps: &mut Steps<L>) -> Option<Pending<'_>>
-        ensures answer { MatchOption result (list_any (λ o. o.window.base == base) (objects self.now) ≡ false) (λ p. (p.window.base ≡ base) × IsShown self.now p) }
-        ensures cost { TakesAtMost (length self.now.rows) (length self.now.blocks) 1 steps.old steps.new }
+    /// No task of an earlier call is waited for any more.
+    pub fn settled(&mut self)
+        ensures { self.new ≡ no_objects }
     {
-        if let Some(f) = self.rows.find(base, steps) {
-            return Some(self.rows.pending(f.place, f.window));
-        }
-        match self.blocks.find(base, steps) {
-            Some(f) => Some(self.blocks.pending(f.place, f.window)),
-            None => None,
-        }
+        self.rows.clear();
+        self.blocks.clear();
+        self.written.clear();
+    }
+
+    /// The object of a base, if there is one, isn't pending any more.
+    pub fn waited(&mut self, base: u32)
+        ensures objects { objects self.new ≡ filter (λ o. not (o.window.base == base)) (objects self.old) }
+        ensures rows { self.new.rows ≡ without base self.old.rows }
+        ensures blocks { self.new.blocks ≡ without base self.old.blocks }
+    {
+        self.rows.drop_base(base);
+        self.blocks.drop_base(base);
+        self.written.drop_base(base);
     }
 
     /// How a window stands to the pending objects.
@@ -129,17 +135,39 @@ impl ObjectTable {
     {
         let row = self.rows.last_row(&window, steps);
         let block = self.blocks.last_block(&window, steps);
-        let Some(r) = row else {
-            return match block {
-                Some(b) => self.blocks.seen(b, &window),
-                None => Probe::Nothing,
-            };
-        };
-        if let Some(b) = block {
-            if r.window.base < b.window.base {
-                return self.blocks.seen(b, &window);
+        match row {
+            None => self.seen_alone(block, &window),
+            Some(r) => self.seen_beside(r, block, &window),
+        }
+    }
+
+    // What is said of a window where it meets no object of one row.
+    fn seen_alone(&self, block: Option<Found>, window: &Window) -> Probe<'_>
+        requires row { NoneShares (windows self.now.rows) window.now }
+        requires block { MatchOption block (NoneShares (windows self.now.blocks) window.now) (IsLastSharing (windows self.now.blocks) window.now) }
+        ensures { IsProbe self.now window.now result }
+    {
+        match block {
+            None => Probe::Nothing,
+            Some(b) => self.blocks.seen(b, window),
+        }
+    }
+
+    // What is said of a window where it meets an object of one row.
+    fn seen_beside(&self, row: Found, block: Option<Found>, window: &Window) -> Probe<'_>
+        requires row { IsLastSharing (windows self.now.rows) window.now row }
+        requires block { MatchOption block (NoneShares (windows self.now.blocks) window.now) (IsLastSharing (windows self.now.blocks) window.now) }
+        ensures { IsProbe self.now window.now result }
+    {
+        match block {
+            None => self.rows.seen(row, window),
+            Some(b) => {
+                if row.window.base < b.window.base {
+                    self.blocks.seen(b, window)
+                } else {
+                    self.rows.seen(row, window)
+                }
             }
         }
-        self.rows.seen(r, &window)
     }
 }
