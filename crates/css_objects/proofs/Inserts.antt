@@ -33,15 +33,23 @@ module _ (xs : List ℕ) (at y : ℕ) (within : at ≤ length xs) (rises : (i j 
       let longer = length-insert xs at y within in
       elim (cases_order j at) [
         | inl same ↦
-            omega (arith, below i (omega arith), get_or-insert_below xs at y 0 i (omega arith) within,
-            subst (λ (n : ℕ). slice_index (insert xs at y) n ≡ y) (sym same) (get_or-insert_at xs at y 0 within))
+            omega (
+              arith,
+              below i (omega arith),
+              get_or-insert_below xs at y 0 i (omega arith) within,
+              subst (λ (n : ℕ). slice_index (insert xs at y) n ≡ y) (sym same) (get_or-insert_at xs at y 0 within),
+            )
         | inr (inl under) ↦
             omega (arith, rises i j before (omega arith), get_or-insert_below xs at y 0 i (omega arith) within, get_or-insert_below xs at y 0 j under within)
         | inr (inr over) ↦
             elim (cases_order i at) [
               | inl same ↦
-                  omega (arith, above (j - 1) (omega arith) (omega (arith, longer)), behind j over,
-                  subst (λ (n : ℕ). slice_index (insert xs at y) n ≡ y) (sym same) (get_or-insert_at xs at y 0 within))
+                  omega (
+                    arith,
+                    above (j - 1) (omega arith) (omega (arith, longer)),
+                    behind j over,
+                    subst (λ (n : ℕ). slice_index (insert xs at y) n ≡ y) (sym same) (get_or-insert_at xs at y 0 within),
+                  )
               | inr (inl under) ↦
                   omega (arith, below i under, rises i (j - 1) (omega arith) (omega (arith, longer)), behind j over, get_or-insert_below xs at y 0 i under within)
               | inr (inr past) ↦

@@ -139,8 +139,8 @@ pub no_entry : (es : List Entry) (base : ℕ) → HasNone (windows es) base → 
 no_entry es base none =
     filter-all (λ e. is_other base e.window) es
     (λ i e at.
-        let here = place_map (λ (x : Entry). x.window) es i e at in
-        ap not (ne_eqb e.window.base base (λ same. none i (slice_get_within (windows es) i e.window here) (base_at (windows es) i e.window here ∙ same))))
+    let here = place_map (λ (x : Entry). x.window) es i e at in
+    ap not (ne_eqb e.window.base base (λ same. none i (slice_get_within (windows es) i e.window here) (base_at (windows es) i e.window here ∙ same))))
 
 pub windows-without : (base : ℕ) (es : List Entry) → windows (without base es) ≡ filter (is_other base) (windows es)
 windows-without base es = sym (filter-map (λ e. e.window) (is_other base) es)
@@ -177,7 +177,7 @@ written_apart rows blocks apart i j v w before of_v of_w =
     let front = front-apart (map object rows) (map object blocks) (subst AreApart (map-append object rows blocks) apart) in
     let fewer = filter-apart (λ o. o.is_written) (map object rows) front in
     let same : filter (λ o. o.is_written) (map object rows) ≡ map object (filter is_written rows ++ []) =
-        filter-map object (λ o. o.is_written) rows ∙ ap (map object) (sym (append-nil (filter is_written rows))) in
+    filter-map object (λ o. o.is_written) rows ∙ ap (map object) (sym (append-nil (filter is_written rows))) in
     windows_apart (filter is_written rows) [] (subst AreApart same fewer) i j v w before of_v of_w
 
 -- ---- the table without the object of a base
@@ -201,9 +201,9 @@ module _ (base : ℕ) (rows blocks : List Entry) (written : List coded.Window) (
   table-without rows_rise written_rise =
       let rows_are = each_left IsRow rows is.rows_are.rows in
       let written_is : filter (is_other base) written ≡ windows (filter is_written (without base rows)) =
-          ap (filter (is_other base)) is.written_are
-          ∙ filter-map (λ e. e.window) (is_other base) (filter is_written rows)
-          ∙ ap windows (filter-turned (λ e. is_other base e.window) is_written rows) in
+      ap (filter (is_other base)) is.written_are
+      ∙ filter-map (λ e. e.window) (is_other base) (filter is_written rows)
+      ∙ ap windows (filter-turned (λ e. is_other base e.window) is_written rows) in
       record {
         rows_are = rows_of (windows (without base rows)) rows_are rows_rise (apart_rows left_apart);
         blocks_are = each_left IsBlock blocks is.blocks_are;

@@ -92,15 +92,15 @@ module _ (rows blocks : List Entry) (written : List coded.Window) (is : IsTable 
   none_equal w place e at shares other =
       any_none (λ o. is_same_window (window w) o.window) (map object (rows ++ blocks))
       (λ i o of_o.
-          let found = map_place object (rows ++ blocks) i o of_o in
-          false_from_ne_true (is_same_window (window w) o.window)
-          (λ same.
-              let equal : w ≡ found.0.window = same_window w found.0.window (subst (λ (x : Object). is_same_window (window w) x.window ≡ true) (sym found.2) same) in
-              let also : share_byte (window found.0.window) (window e.window) ≡ true = subst (λ (x : coded.Window). share_byte (window x) (window e.window) ≡ true) equal shares in
-              let one = one_entry i place found.0 e found.1 at also in
-              let here : slice_get (rows ++ blocks) place ≡ Some found.0 = subst (λ (n : ℕ). slice_get (rows ++ blocks) n ≡ Some found.0) one found.1 in
-              let entry : found.0 ≡ e = some_same found.0 e (sym here ∙ at) in
-              other (sym (ap (λ (x : Entry). x.window) entry) ∙ sym equal)))
+      let found = map_place object (rows ++ blocks) i o of_o in
+      false_from_ne_true (is_same_window (window w) o.window)
+      (λ same.
+      let equal : w ≡ found.0.window = same_window w found.0.window (subst (λ (x : Object). is_same_window (window w) x.window ≡ true) (sym found.2) same) in
+      let also : share_byte (window found.0.window) (window e.window) ≡ true = subst (λ (x : coded.Window). share_byte (window x) (window e.window) ≡ true) equal shares in
+      let one = one_entry i place found.0 e found.1 at also in
+      let here : slice_get (rows ++ blocks) place ≡ Some found.0 = subst (λ (n : ℕ). slice_get (rows ++ blocks) n ≡ Some found.0) one found.1 in
+      let entry : found.0 ≡ e = some_same found.0 e (sym here ∙ at) in
+      other (sym (ap (λ (x : Entry). x.window) entry) ∙ sym equal)))
     where
       some_same : (x y : Entry) → Some x ≡ Some y → x ≡ y
       some_same x y e = cc
@@ -163,14 +163,14 @@ pub none_at_base : (rows blocks : List Entry) (base : ℕ) → HasNone (windows 
 none_at_base rows blocks base of_rows of_blocks =
     any_none (λ o. eqb o.window.base base) (map object (rows ++ blocks))
     (λ i o of_o.
-        let found = map_place object (rows ++ blocks) i o of_o in
-        subst (λ (x : Object). eqb x.window.base base ≡ false) found.2
-        (ne_eqb found.0.window.base base (λ same.
-            elim (place_split rows blocks i found.0 found.1) [
-              | inl here ↦
-                  let at = place_map (λ (x : Entry). x.window) rows i found.0 here in
-                  of_rows i (slice_get_within (windows rows) i found.0.window at) (base_at (windows rows) i found.0.window at ∙ same)
-              | inr later ↦
-                  let at = place_map (λ (x : Entry). x.window) blocks later.0 found.0 later.2 in
-                  of_blocks later.0 (slice_get_within (windows blocks) later.0 found.0.window at) (base_at (windows blocks) later.0 found.0.window at ∙ same)
-            ])))
+    let found = map_place object (rows ++ blocks) i o of_o in
+    subst (λ (x : Object). eqb x.window.base base ≡ false) found.2
+    (ne_eqb found.0.window.base base (λ same.
+    elim (place_split rows blocks i found.0 found.1) [
+      | inl here ↦
+          let at = place_map (λ (x : Entry). x.window) rows i found.0 here in
+          of_rows i (slice_get_within (windows rows) i found.0.window at) (base_at (windows rows) i found.0.window at ∙ same)
+      | inr later ↦
+          let at = place_map (λ (x : Entry). x.window) blocks later.0 found.0 later.2 in
+          of_blocks later.0 (slice_get_within (windows blocks) later.0 found.0.window at) (base_at (windows blocks) later.0 found.0.window at ∙ same)
+    ])))

@@ -174,9 +174,9 @@ last_row_meets w from to row is some below within begins last =
     same_test (nat_lt from (w.base + row * w.stride + w.width)) (window_meets w from to)
     (λ h. rows_by w.rows w.base w.width w.stride from to row within (omega (arith, begins)) (ltb-true from (w.base + row * w.stride + w.width) h))
     (λ h.
-        let found = rows_give w.rows w.base w.width w.stride from to h in
-        let before = mul-le found.0 w.stride row w.stride (last found.0 found.1 (omega (arith, found.2))) (omega arith) in
-        lt-ltb from (w.base + row * w.stride + w.width) (omega (arith, found.3, before)))
+    let found = rows_give w.rows w.base w.width w.stride from to h in
+    let before = mul-le found.0 w.stride row w.stride (last found.0 found.1 (omega (arith, found.2))) (omega arith) in
+    lt-ltb from (w.base + row * w.stride + w.width) (omega (arith, found.3, before)))
 
 pub none_below : (w : Window) (from to : ℕ) → to ≤ w.base → window_meets w from to ≡ false
 none_below w from to above =
@@ -233,9 +233,11 @@ share_gives w (suc rows) base width stride shares =
       | inl here ↦ (0, omega arith, subst (λ (n : ℕ). window_meets w n (n + width) ≡ true) (let e : base ≡ base + 0 * stride = omega arith in e) here)
       | inr later ↦
           let found = share_gives w rows (base + stride) width stride later in
-          let next = suc-mul found.0 stride in
-          (suc found.0, omega (arith, found.1),
-          subst (λ (n : ℕ). window_meets w n (n + width) ≡ true) (let e : base + stride + found.0 * stride ≡ base + suc found.0 * stride = omega (arith, next) in e) found.2)
+          let next = suc-mul found.0 stride in (
+            suc found.0,
+            omega (arith, found.1),
+            subst (λ (n : ℕ). window_meets w n (n + width) ≡ true) (let e : base + stride + found.0 * stride ≡ base + suc found.0 * stride = omega (arith, next) in e) found.2,
+          )
     ]
 
 pub share_by : (w : Window) (rows base width stride i : ℕ) → i < rows → window_meets w (base + i * stride) (base + i * stride + width) ≡ true → rows_share w rows base width stride ≡ true

@@ -45,15 +45,15 @@ module _ (windows : List coded.Window) (rows : AreRows windows) (from to : ℕ) 
     none_before over i w at =
         false_from_ne_true (window_meets (window w) from to)
         (λ meets.
-            let is = rows.rows i w at in
-            let here = row_gives w from to is.one meets in
-            elim (cases_order f.place i) [
-              | inl same ↦
-                  let e = same_place windows i w f.window at (subst (λ n. slice_get windows n ≡ Some f.window) same last.stands) in
-                  omega (arith, here.1, over, ap (λ (x : coded.Window). x.base) e, ap (λ (x : coded.Window). x.width) e)
-              | inr (inl past) ↦ omega (arith, here.0, base_at windows i w at, last.above i (omega arith) (slice_get_within windows i w at))
-              | inr (inr before) ↦ omega (arith, here.1, over, rows.parted i f.place w f.window before at last.stands)
-            ])
+        let is = rows.rows i w at in
+        let here = row_gives w from to is.one meets in
+        elim (cases_order f.place i) [
+          | inl same ↦
+              let e = same_place windows i w f.window at (subst (λ n. slice_get windows n ≡ Some f.window) same last.stands) in
+              omega (arith, here.1, over, ap (λ (x : coded.Window). x.base) e, ap (λ (x : coded.Window). x.width) e)
+          | inr (inl past) ↦ omega (arith, here.0, base_at windows i w at, last.above i (omega arith) (slice_get_within windows i w at))
+          | inr (inr before) ↦ omega (arith, here.1, over, rows.parted i f.place w f.window before at last.stands)
+        ])
 
     -- it doesn't
     pub last_meets : from < f.window.base + f.window.width → IsLastMeeting windows from to f
@@ -99,8 +99,8 @@ module _ (windows : List coded.Window) (w : coded.Window) (is : IsWindow (window
   none_shares none j v at =
       false_from_ne_true (share_byte (window w) (window v))
       (λ shares.
-          let row = shared_row w v is (rows.rows j v at).is_window shares in
-          false≢true (sym (none j v at row.0 (omega arith) row.1) ∙ row.2))
+      let row = shared_row w v is (rows.rows j v at).is_window shares in
+      false≢true (sym (none j v at row.0 (omega arith) row.1) ∙ row.2))
 
   -- the last that meets a row, where none meets a later one
   pub last_shares : (row : ℕ) (f : Found) → row < w.rows → NoneFrom windows w (row + 1)
@@ -204,6 +204,10 @@ shares_last windows w f ascends stands shares later = record {
         let e = same_place windows f.place v f.window (subst (λ (n : ℕ). slice_get windows n ≡ Some v) same at) stands in
         omega (arith, ap (λ (x : coded.Window). x.base) e)
     before i v at also (inr (inl less)) =
-        omega (arith, base_at windows i v at, base_at windows f.place f.window stands,
-        ascends.rises i f.place less (omega (arith, length-map windows (λ x. x.base), slice_get_within windows f.place f.window stands)))
+        omega (
+          arith,
+          base_at windows i v at,
+          base_at windows f.place f.window stands,
+          ascends.rises i f.place less (omega (arith, length-map windows (λ x. x.base), slice_get_within windows f.place f.window stands)),
+        )
     before i v at also (inr (inr more)) = absurd (false≢true (sym (later i v (omega arith) at) ∙ also))

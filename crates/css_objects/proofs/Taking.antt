@@ -50,7 +50,7 @@ module _ (rows blocks : List Entry) (written : List coded.Window) (is : IsTable 
   pub table-without_row : (k : ℕ) (e : Entry) → slice_get rows k ≡ Some e → k < length rows → is_written e ≡ false → IsAscending (windows (remove rows k)) → IsTable (remove rows k) blocks written
   table-without_row k e at within unwritten ascends =
       let apart : AreApart (map object (remove rows k ++ blocks)) =
-          subst AreApart (sym (map-remove object (rows ++ blocks) k) ∙ ap (map object) (remove-append_left rows blocks k within)) (apart-remove (map object (rows ++ blocks)) k is.apart) in
+      subst AreApart (sym (map-remove object (rows ++ blocks) k) ∙ ap (map object) (remove-append_left rows blocks k within)) (apart-remove (map object (rows ++ blocks)) k is.apart) in
       record {
         rows_are = rows_of (windows (remove rows k)) (each_remove IsRow rows k is.rows_are.rows) ascends (windows_apart (remove rows k) blocks apart);
         blocks_are = is.blocks_are;
@@ -63,9 +63,9 @@ module _ (rows blocks : List Entry) (written : List coded.Window) (is : IsTable 
   table-without_block k within =
       let behind : length rows + k - length rows ≡ k = omega arith in
       let apart : AreApart (map object (rows ++ remove blocks k)) =
-          subst AreApart
-          (sym (map-remove object (rows ++ blocks) (length rows + k)) ∙ ap (map object) (remove-append_right rows blocks (length rows) (length rows + k) refl (omega arith) ∙ ap (λ n. rows ++ remove blocks n) behind))
-          (apart-remove (map object (rows ++ blocks)) (length rows + k) is.apart) in
+      subst AreApart
+      (sym (map-remove object (rows ++ blocks) (length rows + k)) ∙ ap (map object) (remove-append_right rows blocks (length rows) (length rows + k) refl (omega arith) ∙ ap (λ n. rows ++ remove blocks n) behind))
+      (apart-remove (map object (rows ++ blocks)) (length rows + k) is.apart) in
       record {
         rows_are = is.rows_are;
         blocks_are = each_remove IsBlock blocks k is.blocks_are;

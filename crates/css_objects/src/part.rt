@@ -97,11 +97,7 @@ impl Part {
     }
 
     /// Of windows of one row the one of greatest base that shares a byte with a window.
-    pub(crate) fn last_row<L: Ledger>(
-        &self,
-        window: &Window,
-        steps: &mut Steps<L>,
-    ) -> Option<Found>
+    pub(crate) fn last_row<L: Ledger>(&self, window: &Window, steps: &mut Steps<L>) -> Option<Found>
         requires rows { AreRows (windows_of self.now) }
         requires is_window { records.IsWindow (records.window window.now) }
         ensures found { MatchOption result (NoneShares (windows_of self.now) window.now) (IsLastSharing (windows_of self.now) window.now) }

@@ -40,7 +40,11 @@ pub(crate) fn meets(window: &Window, from: u64, to: u64) -> bool
     }
     let behind = (to - 1 - base) / u64::from(window.stride);
     let last = window.rows - 1;
-    let row = if behind < u64::from(last) { behind as u32 } else { last };
+    let row = if behind < u64::from(last) {
+        behind as u32
+    } else {
+        last
+    };
     from < row_end(window, row)
 }
 
@@ -59,7 +63,11 @@ pub(crate) fn shares(a: &Window, b: &Window) -> bool
     requires second { windows.IsWindow (windows.window b.now) }
     ensures { result ≡ share_byte (windows.window a.now) (windows.window b.now) }
 {
-    if a.rows <= b.rows { rows_share_with(a, b) } else { rows_share_with(b, a) }
+    if a.rows <= b.rows {
+        rows_share_with(a, b)
+    } else {
+        rows_share_with(b, a)
+    }
 }
 
 // Whether a row of one window has a byte of another one.

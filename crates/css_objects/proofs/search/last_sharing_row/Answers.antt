@@ -38,7 +38,7 @@ loop-row-preserved g c =
       below = omega (arith, c.loop-row.invariant.below);
       none = from_row c.args.rows.now c.args.window.now row (subst (λ (n : ℕ). NoneFrom c.args.rows.now c.args.window.now n) again c.loop-row.invariant.none) here;
       cost = row_takes (length c.args.rows.now) c.args.window.now.rows row c.args.steps.now c.loop-row.steps c.last_meeting-found.new.steps (omega (arith, c.loop-row.invariant.below))
-      (subst (λ (n : ℕ). RowsTake (length c.args.rows.now) c.args.window.now.rows n c.args.steps.now c.loop-row.steps) again c.loop-row.invariant.cost) c.last_meeting-found.ensures.cost;
+          (subst (λ (n : ℕ). RowsTake (length c.args.rows.now) c.args.window.now.rows n c.args.steps.now c.loop-row.steps) again c.loop-row.invariant.cost) c.last_meeting-found.ensures.cost;
     }
 
 pub returns-clause-found : goal.returns-clause-found

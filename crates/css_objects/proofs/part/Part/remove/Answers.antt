@@ -31,6 +31,12 @@ returns-clause-ascends c =
     let p = c.self.inside in
     let within : c.args.place < length p.windows = omega (arith, part_length p.windows p.versions.items c.args.self.now c.self.invariant c.self.view_is, c.requires) in
     let long : length c.remove-version.new.self.items ≡ length c.remove.new.self =
-        omega (arith, ap length c.remove.ensures.rest, length-remove p.windows c.args.place within, ap length c.remove-version.ensures.items,
-        length-remove p.versions.items c.args.place (omega (arith, within, c.self.invariant)), c.self.invariant) in
+    omega (
+      arith,
+      ap length c.remove.ensures.rest,
+      length-remove p.windows c.args.place within,
+      ap length c.remove-version.ensures.items,
+      length-remove p.versions.items c.args.place (omega (arith, within, c.self.invariant)),
+      c.self.invariant,
+    ) in
     subst IsAscending (sym (windows-entries c.remove.new.self c.remove-version.new.self.items long)) c.remove.ensures.ascends
