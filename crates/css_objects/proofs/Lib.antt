@@ -1,0 +1,10 @@
+pub mod Ranges
+pub mod Searches
+pub mod Lists
+pub mod Rows
+pub mod Tables
+pub mod Probes
+pub mod Edits
+pub mod Inserts
+pub mod Keeping
+pub mod Taking

@@ -1,0 +1,5 @@
+pub mod Ordered
+pub mod Ranges
+pub mod Found
+pub mod Table
+pub mod Seen

@@ -1,0 +1,169 @@
+//! Windows in order of base.
+ghost use Rattle.std.specs.Prelude.{◌≡◌, ◌+◌, ◌*◌, ◌^◌, ◌<◌, ◌≤◌, ℕ, [], ◌∷◌, length, slice_get, Some, MatchOption};
+ghost use Rattle.std.specs.List.{filter, remove};
+ghost use Rattle.css_objects.specs.Table.{is_other};
+ghost use Rattle.css_objects.specs.Ordered.{StandAbove, IsAscending, IsLastBelow, IsOfBase, HasNone, IsSearch};
+
+use crate::steps::Steps;
+use css_record::Window;
+use indexmap::IndexMap;
+use std::alloc::Global;
+use std::marker::{Brand, Model};
+use std::sync::ledger::{Blank, Ledger};
+
+/// A window that was found among others, with its place.
+#[derive(Clone, Copy)]
+pub struct Found {
+    pub place: usize,
+    pub window: Window,
+}
+
+/// Windows in order of base, no two of one base. Contracts see their list.
+#[derive(Drop)]
+pub struct Ordered {
+    windows: IndexMap<u32, Window>,
+}
+
+impl Model for Ordered {
+    ghost use Rattle.std.specs.Prelude.{List};
+    ghost use Rattle.css_record.specs.declared.window.Window.{Window};
+    ghost use Rattle.indexmap.specs.IndexMap.{keys, values};
+    ghost use Rattle.css_objects.specs.Ordered.{IsInOrder};
+
+    ghost Value = { List Window };
+
+    ghost view = { λ o. values o.windows };
+
+    ghost invariant = { λ o. IsInOrder (keys o.windows) (values o.windows) };
+}
+
+impl Ordered {
+    /// No window. Takes no memory.
+    pub(crate) fn new(alloc: Global) -> Ordered
+        ensures { result ≡ [] }
+    {
+        Ordered {
+            windows: IndexMap::new(alloc),
+        }
+    }
+
+    /// How many windows there are.
+    pub fn len(&self) -> usize
+        ensures count { result ≡ length self.now }
+        ensures small { result < 2 ^ 63 }
+        ensures ascends { IsAscending self.now }
+    {
+        self.windows.len()
+    }
+
+    /// The window at a place, which is one step.
+    pub fn at<L: Ledger>(&self, place: usize, steps: &mut Steps<L>) -> &Window
+        requires { place < length self.now }
+        ensures value { slice_get self.now place ≡ Some result.now }
+        ensures step { steps.new ≡ steps.old + 1 }
+    {
+        steps.tick();
+        &self.windows[place]
+    }
+
+    /// The window at a place, where no steps are counted.
+    pub(crate) fn window(&self, place: usize) -> Window
+        requires { place < length self.now }
+        ensures { slice_get self.now place ≡ Some result }
+    {
+        self.at_from::<Brand>(place, Blank::new(1))
+    }
+
+    // The same, with a ledger for its step.
+    fn at_from<L: Ledger>(&self, place: usize, blank: Blank) -> Window
+        requires place { place < length self.now }
+        requires name { blank.name ≡ L.name }
+        requires parts { blank.parts ≡ L.parts }
+        requires some { 0 < L.parts }
+        ensures { slice_get self.now place ≡ Some result }
+    {
+        let mut steps = Steps::<L>::new(blank);
+        *self.at(place, &mut steps)
+    }
+
+    /// The last window that begins below an address.
+    pub fn last_below<L: Ledger>(&self, end: u64, steps: &mut Steps<L>) -> Option<Found>
+        ensures found { MatchOption result (StandAbove self.now end 0) (IsLastBelow self.now end) }
+        ensures cost { IsSearch (length self.now) steps.old steps.new }
+    {
+        let mut low = 0;
+        let mut high = self.len();
+        let mut found = None;
+        while low < high {
+            let place = low + (high - low) / 2;
+            let window = *self.at(place, steps);
+            if u64::from(window.base) < end {
+                found = Some(Found { place, window });
+                low = place + 1;
+            } else {
+                high = place;
+            }
+        }
+        found
+    }
+
+    /// Without the window at a place.
+    pub(crate) fn remove(&mut self, place: usize)
+        requires { place < length self.old }
+        ensures rest { self.new ≡ remove self.old place }
+        ensures ascends { IsAscending self.new }
+    {
+        let _removed = self.windows.shift_remove_index(place);
+    }
+
+    /// Without the window of a base, if there is one.
+    pub(crate) fn drop_base(&mut self, base: u32)
+        ensures rest { self.new ≡ filter (is_other base) self.old }
+        ensures ascends { IsAscending self.new }
+    {
+        match self.found(base) {
+            Some(f) => self.remove(f.place),
+            None => {}
+        }
+    }
+
+    /// The window of a base, where no steps are counted.
+    pub(crate) fn found(&self, base: u32) -> Option<Found>
+        ensures found { MatchOption result (HasNone self.now base) (IsOfBase self.now base) }
+        ensures ascends { IsAscending self.now }
+    {
+        let _count = self.len();
+        self.find_from::<Brand>(base, Blank::new(1))
+    }
+
+    // The same, with a ledger for its steps.
+    fn find_from<L: Ledger>(&self, base: u32, blank: Blank) -> Option<Found>
+        requires name { blank.name ≡ L.name }
+        requires parts { blank.parts ≡ L.parts }
+        requires some { 0 < L.parts }
+        ensures { MatchOption result (HasNone self.now base) (IsOfBase self.now base) }
+    {
+        let mut steps = Steps::<L>::new(blank);
+        self.find(base, &mut steps)
+    }
+
+    /// Without any window.
+    pub(crate) fn clear(&mut self)
+        ensures { self.new ≡ [] }
+    {
+        self.windows.clear();
+    }
+
+    /// The window of a base.
+    pub fn find<L: Ledger>(&self, base: u32, steps: &mut Steps<L>) -> Option<Found>
+        ensures found { MatchOption result (HasNone self.now base) (IsOfBase self.now base) }
+        ensures cost { IsSearch (length self.now) steps.old steps.new }
+    {
+        let found = self.last_below(u64::from(base) + 1, steps)?;
+        if found.window.base == base {
+            Some(found)
+        } else {
+            None
+        }
+    }
+}

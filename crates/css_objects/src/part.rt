@@ -1,0 +1,204 @@
+//! Objects in order of base.
+ghost use Rattle.std.specs.Prelude.{◌≡◌, ◌+◌, ◌<◌, ◌≤◌, ◌&&◌, ℕ, [], length, slice_get, Some, MatchOption};
+ghost use Rattle.std.specs.List.{list_any, remove};
+ghost use Rattle.css_record.specs.Windows as records;
+ghost use Rattle.css_objects.specs.Ordered.{HasNone, IsAscending, IsOfBase, IsSearch};
+ghost use Rattle.css_objects.specs.Found.{Each, AreRows, NoneShares, IsLastSharing, TakesAtMost};
+ghost use Rattle.css_objects.specs.Ranges.{window_meets};
+ghost use Rattle.css_objects.specs.Table.{Entry, windows as windows_of, is_written, without, IsBlock};
+ghost use Rattle.css_objects.specs.Seen.{ShowsAt, IsSeen};
+
+use crate::ordered::{Found, Ordered};
+use crate::pending::{Pending, Probe, Version};
+use crate::search::{last_sharing_block, last_sharing_row};
+use crate::steps::Steps;
+use crate::version::Held;
+use crate::window::{meets, same};
+use css_record::Window;
+use std::alloc::Global;
+use std::marker::Model;
+use std::sync::ledger::Ledger;
+
+/// Objects in order of base, each with its current version. Contracts see their list.
+#[derive(Drop)]
+pub(crate) struct Part {
+    windows: Ordered,
+    versions: Vec<Held>,
+}
+
+impl Model for Part {
+    ghost use Rattle.std.specs.Prelude.{◌≡◌, List, length};
+    ghost use Rattle.css_objects.specs.Table.{Entry, entries};
+
+    ghost Value = { List Entry };
+
+    ghost view = { λ p. entries p.windows p.versions.items };
+
+    ghost invariant = { λ p. length p.versions.items ≡ length p.windows };
+}
+
+impl Part {
+    /// No object. Takes no memory.
+    pub(crate) fn new(alloc: Global) -> Part
+        ensures { result ≡ [] }
+    {
+        Part {
+            windows: Ordered::new(alloc),
+            versions: Vec::new(alloc),
+        }
+    }
+
+    /// How many objects there are.
+    pub(crate) fn len(&self) -> usize
+        ensures { result ≡ length self.now }
+    {
+        self.versions.len()
+    }
+
+    /// The window at a place.
+    pub(crate) fn window(&self, place: usize) -> Window
+        requires { place < length self.now }
+        ensures { slice_get (windows_of self.now) place ≡ Some result }
+    {
+        self.windows.window(place)
+    }
+
+    /// Lends the object at a place.
+    pub(crate) fn pending(&self, place: usize, window: Window) -> Pending<'_>
+        requires { slice_get (windows_of self.now) place ≡ Some window }
+        ensures shows { ShowsAt self.now place result }
+        ensures window { result.window ≡ window }
+    {
+        let version = &self.versions[place];
+        let written = version.has_maker();
+        let version = match version {
+            Held::Made { task, out } => Version::Made {
+                task: *task,
+                out: *out,
+            },
+            Held::Kept { bytes, by: _ } => Version::Kept(bytes),
+        };
+        Pending {
+            window,
+            written,
+            version,
+        }
+    }
+
+    /// What is said of a window that was found.
+    pub(crate) fn seen(&self, found: Found, window: &Window) -> Probe<'_>
+        requires { slice_get (windows_of self.now) found.place ≡ Some found.window }
+        ensures { IsSeen self.now found window.now result }
+    {
+        if same(&found.window, window) {
+            return Probe::Same(self.pending(found.place, found.window));
+        }
+        Probe::Crosses(found.window)
+    }
+
+    /// Of windows of one row the one of greatest base that shares a byte with a window.
+    pub(crate) fn last_row<L: Ledger>(&self, window: &Window, steps: &mut Steps<L>) -> Option<Found>
+        requires rows { AreRows (windows_of self.now) }
+        requires is_window { records.IsWindow (records.window window.now) }
+        ensures found { MatchOption result (NoneShares (windows_of self.now) window.now) (IsLastSharing (windows_of self.now) window.now) }
+        ensures cost { TakesAtMost (length self.now) 0 window.now.rows steps.old steps.new }
+    {
+        last_sharing_row(&self.windows, window, steps)
+    }
+
+    /// Of any windows the one of greatest base that shares a byte with a window.
+    pub(crate) fn last_block<L: Ledger>(
+        &self,
+        window: &Window,
+        steps: &mut Steps<L>,
+    ) -> Option<Found>
+        requires blocks { Each (windows_of self.now) IsBlock }
+        requires is_window { records.IsWindow (records.window window.now) }
+        ensures found { MatchOption result (NoneShares (windows_of self.now) window.now) (IsLastSharing (windows_of self.now) window.now) }
+        ensures cost { steps.new ≤ steps.old + length self.now }
+    {
+        last_sharing_block(&self.windows, window, steps)
+    }
+
+    /// The window of a base.
+    pub(crate) fn find<L: Ledger>(&self, base: u32, steps: &mut Steps<L>) -> Option<Found>
+        ensures found { MatchOption result (HasNone (windows_of self.now) base) (IsOfBase (windows_of self.now) base) }
+        ensures cost { IsSearch (length self.now) steps.old steps.new }
+    {
+        self.windows.find(base, steps)
+    }
+
+    /// Whether an object that a task may write has a byte from one address up to another. It reads each.
+    pub(crate) fn has_written<L: Ledger>(&self, from: u64, to: u64, steps: &mut Steps<L>) -> bool
+        requires are_windows { Each (windows_of self.now) IsBlock }
+        requires some { from < to }
+        ensures answer { result ≡ list_any (λ e. is_written e && window_meets (records.window e.window) from to) self.now }
+        ensures cost { steps.new ≤ steps.old + length self.now }
+    {
+        for place in 0..self.len() {
+            let window = self.read(place, steps);
+            if self.is_met(place, &window, from, to) {
+                return true;
+            }
+        }
+        false
+    }
+
+    /// Without the object at a place.
+    pub(crate) fn remove(&mut self, place: usize)
+        requires { place < length self.old }
+        ensures rest { self.new ≡ remove self.old place }
+        ensures ascends { IsAscending (windows_of self.new) }
+    {
+        self.windows.remove(place);
+        let _version = self.versions.remove(place);
+    }
+
+    /// Without the object of a base, if there is one.
+    pub(crate) fn drop_base(&mut self, base: u32)
+        ensures rest { self.new ≡ without base self.old }
+        ensures ascends { IsAscending (windows_of self.new) }
+    {
+        match self.found(base) {
+            Some(f) => self.remove(f.place),
+            None => {}
+        }
+    }
+
+    // The window of a base, where no steps are counted.
+    fn found(&self, base: u32) -> Option<Found>
+        ensures found { MatchOption result (HasNone (windows_of self.now) base) (IsOfBase (windows_of self.now) base) }
+        ensures ascends { IsAscending (windows_of self.now) }
+    {
+        self.windows.found(base)
+    }
+
+    /// Without any object.
+    pub(crate) fn clear(&mut self)
+        ensures { self.new ≡ [] }
+    {
+        self.windows.clear();
+        self.versions.clear();
+    }
+
+    // The window at a place, which is one step.
+    fn read<L: Ledger>(&self, place: usize, steps: &mut Steps<L>) -> Window
+        requires { place < length self.now }
+        ensures value { slice_get (windows_of self.now) place ≡ Some result }
+        ensures step { steps.new ≡ steps.old + 1 }
+    {
+        *self.windows.at(place, steps)
+    }
+
+    // Whether the object at a place is one that a task may write, and has a byte from one address up to another.
+    fn is_met(&self, place: usize, window: &Window, from: u64, to: u64) -> bool
+        requires place { slice_get (windows_of self.now) place ≡ Some window.now }
+        requires is_window { records.IsWindow (records.window window.now) }
+        requires some { from < to }
+        ensures { (e : Entry) → slice_get self.now place ≡ Some e → result ≡ (is_written e && window_meets (records.window e.window) from to) }
+    {
+        let met = meets(window, from, to);
+        let written = self.versions[place].has_maker();
+        written && met
+    }
+}
