@@ -1,0 +1,8 @@
+use Rattle.std.proofs.Common.{◌≡◌, ◌++◌, map, take}
+use Rattle.std.specs.List.{flat_map}
+use Rattle.css_traces.specs.declared.trace_line.TraceLine.TheVariants as lines
+use Rattle.css_traces.specs.Lines.{line_text}
+use Rattle.css_traces.proofs.writing.put_entries.Given as goal
+
+abbrev pub invariant-loop-entry : goal.invariant-loop-entry
+invariant-loop-entry l = l.text.items ≡ l.fn.text.items ++ flat_map line_text (map lines.Entry (take l.entry-index l.entries))
