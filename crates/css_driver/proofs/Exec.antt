@@ -15,7 +15,7 @@ use Rattle.css_vm.specs.declared.code.Conversion.TheVariants as conversions
 use Rattle.css_vm.specs.Cells.{int_of}
 use Rattle.css_vm.specs.Code.{Routine, Code}
 use Rattle.css_vm.specs.Machine.{State, Begin, At, Activation, Caller, Halt, Finished, Stuck, After, Ended, On, on_one, on_two, on_cell, on_many, on_function, stores, entered, next, one, two, division, calling, task_returned, returning, effect, at_instr, beginning, step, go_on, exec, finished, main_ends}
-use Rattle.css_small_code.specs.Marks.{IsPlain, HasNoMarks}
+use Rattle.css_small_code.specs.Marks.{IsNoMark, HasNoMarks}
 
 -- an outcome that isn't for want of fuel
 pub record IsSettled {A : Type 0} (o : Outcome A) : Type 0 where
@@ -162,7 +162,7 @@ module _ (w : World) (code : Code) (a : Activation) (callers : List Caller) (lin
       then-extends t (ask w (Leave a.base f.frame) line t) _ (ask-extends w (Leave a.base f.frame) line t tt)
       (λ r t'. then-extends t' (task_returned w code a callers line place a.is_task t') _ (task_returned-extends a.is_task t') (λ r' t''. extends_same t''))
 
-  effect-extends : (op : Op) (stack : List ℕ) (t : Tape) → IsPlain op → Grows t (tape_of (effect w code a callers line place op stack t))
+  effect-extends : (op : Op) (stack : List ℕ) (t : Tape) → IsNoMark op → Grows t (tape_of (effect w code a callers line place op stack t))
   effect-extends (ops.Push v) stack t h = extends_same t
   effect-extends ops.Drop stack t h = on_one-extends stack t _ (λ x rest. extends_same t)
   effect-extends (ops.Dup n) stack t h = on_cell-extends (slice_get stack n) t _ (λ x. extends_same t)
@@ -206,15 +206,15 @@ all_at P (y ∷ xs) (suc k) x h is = all_at P xs k x h.1 is
 
 module _ (w : World) (code : Code) (plain : HasNoMarks code) where
   at_instr-extends : (i : Option Instr) (a : Activation) (callers : List Caller) (place : ℕ) (stack : List ℕ) (t : Tape)
-      → ((j : Instr) → i ≡ Some j → IsPlain j.op) → Grows t (tape_of (at_instr w code i a callers place stack t))
+      → ((j : Instr) → i ≡ Some j → IsNoMark j.op) → Grows t (tape_of (at_instr w code i a callers place stack t))
   at_instr-extends None a callers place stack t h = extends_same t
   at_instr-extends (Some i) a callers place stack t h = effect-extends w code a callers i.line place i.op stack t (h i refl)
 
   -- an instruction of the code is plain
-  plain_at : (f : Routine) (k place : ℕ) (i : Instr) → slice_get code.functions k ≡ Some f → slice_get f.body place ≡ Some i → IsPlain i.op
+  plain_at : (f : Routine) (k place : ℕ) (i : Instr) → slice_get code.functions k ≡ Some f → slice_get f.body place ≡ Some i → IsNoMark i.op
   plain_at f k place i is here =
-      all_at (λ (j : Instr). IsPlain j.op) f.body place i
-      (recursion_from_All _ f.body (all_at (λ (r : Routine). All (λ (j : Instr). IsPlain j.op) r.body) code.functions k f (recursion_from_All _ code.functions plain) is)) here
+      all_at (λ (j : Instr). IsNoMark j.op) f.body place i
+      (recursion_from_All _ f.body (all_at (λ (r : Routine). All (λ (j : Instr). IsNoMark j.op) r.body) code.functions k f (recursion_from_All _ code.functions plain) is)) here
 
   step-extends : (s : State) (t : Tape) → Grows t (tape_of (step w code s t))
   step-extends (Begin k arguments line) t =

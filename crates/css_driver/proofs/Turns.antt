@@ -27,7 +27,7 @@ use Rattle.css_vm.specs.Events.{Reaches, IsInside, IsStacked, base_of, Does}
 use Rattle.css_small_code.specs.Marks.{HasNoMarks}
 use Rattle.css_driver.specs.Answer.{ending_of}
 use Rattle.css_io.specs.Changes.{Change, change}
-use Rattle.css_main_side.specs.Pending.{Passes}
+use Rattle.css_main_side.specs.OutputBuffer.{Passes}
 use Rattle.css_driver.specs.Running.{halted, main_frame, Running, ComesTo, GoesOn, left_with, reply_to_leaving}
 use Rattle.css_driver.proofs.Exec.{IsSettled, IsAny, target-more, target-extends, Extends, output-extends}
 use Rattle.css_main_side.proofs.Sinks.{Appends-nothing}

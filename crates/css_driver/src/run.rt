@@ -19,7 +19,7 @@ ghost use Rattle.css_main_side.specs.Ran.{RanAs};
 
 use css_base::{Ending, IntType, Line, Stop, Who};
 use css_io::Sink;
-use css_main_side::{Pending, Ran};
+use css_main_side::{OutputBuffer, Ran};
 use css_mem::MainMemory;
 use css_num::convert;
 use css_vm::{Code, Due, Event, Function, Machine, Space};
@@ -41,7 +41,7 @@ pub fn run_main<O: Sink>(
     ensures { (o : Outcome ℤ) (ending : Ending) → ComesTo (no_globals memory) units (code_of code.now) o → ending_of o ≡ Some ending
         → RanAs ending (output (tape_of o)) (change O.written O.faults out.old out.new) result }
 {
-    let Ok(mut pending) = Pending::new(alloc) else {
+    let Ok(mut pending) = OutputBuffer::new(alloc) else {
         return Ran::NoMemory;
     };
     let Ok(mut space) = MainMemory::new(alloc, memory, true) else {
@@ -73,7 +73,7 @@ fn run_on<O: Sink>(
     code: &Code,
     space: &mut MainMemory,
     units: &mut u64,
-    pending: &mut Pending,
+    pending: &mut OutputBuffer,
     out: &mut O,
 ) -> Option<Ran>
     requires no_marks { HasNoMarks (code_of code.now) }
@@ -107,7 +107,7 @@ fn turn<O: Sink>(
     code: &Code,
     space: &mut MainMemory,
     units: &mut u64,
-    pending: &mut Pending,
+    pending: &mut OutputBuffer,
     out: &mut O,
 ) -> Option<Ran>
     requires no_marks { HasNoMarks (code_of code.now) }
@@ -150,7 +150,7 @@ fn returned<O: Sink>(
     line: Line,
     code: &Code,
     space: &mut MainMemory,
-    pending: &mut Pending,
+    pending: &mut OutputBuffer,
     out: &mut O,
 ) -> Ran
     requires { (f : Routine) × (slice_get (code_of code.now).functions code.now.main ≡ Some f) }
@@ -163,7 +163,7 @@ fn returned<O: Sink>(
 }
 
 // Ends with main's stop in a line.
-fn stopped<O: Sink>(stop: Stop, line: Line, pending: &mut Pending, out: &mut O) -> Ran
+fn stopped<O: Sink>(stop: Stop, line: Line, pending: &mut OutputBuffer, out: &mut O) -> Ran
     ensures { RanAs (Ending.Stopped stop line Main) pending.old (change O.written O.faults out.old out.new) result }
 {
     let who = Who::Main;
@@ -171,7 +171,7 @@ fn stopped<O: Sink>(stop: Stop, line: Line, pending: &mut Pending, out: &mut O) 
 }
 
 // Passes the last output to the sink, and gives the ending.
-fn end<O: Sink>(ending: Ending, pending: &mut Pending, out: &mut O) -> Ran
+fn end<O: Sink>(ending: Ending, pending: &mut OutputBuffer, out: &mut O) -> Ran
     ensures { RanAs ending pending.old (change O.written O.faults out.old out.new) result }
 {
     match pending.flush(out) {

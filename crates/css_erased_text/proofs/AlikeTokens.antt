@@ -12,7 +12,7 @@ use Rattle.css_lexemes.specs.declared.line_kind.LineKind.{LineKind}
 use Rattle.css_lexemes.specs.declared.line_kind.LineKind.TheVariants as kinds
 use Rattle.css_lexemes.specs.Lines.{is_css}
 use Rattle.css_lexemes.specs.Lexemes.{Piece}
-use Rattle.css_macros.specs.Macros.{Table, IsPlain, replacement, replacement_names}
+use Rattle.css_macros.specs.Macros.{Table, IsNoDirective, replacement, replacement_names}
 use Rattle.css_lex.specs.Reading.{read_by, kind_of_piece, place_of, end_of}
 use Rattle.css_lex.specs.Costs.{Cost, piece_costs, costs_by}
 use Rattle.css_lex.specs.Spelling.{line_at, tokens_of, tokens_by}
@@ -65,7 +65,7 @@ line_tokens text other kinds.Pragma table ps qs plain zip = refl
 line_tokens text other kinds.Unknown table ps qs plain zip = refl
 
 -- None of them is a directive.
-no_directive : (kind : Kind) → IsPlain kind → is_directive_kind kind ≡ false
+no_directive : (kind : Kind) → IsNoDirective kind → is_directive_kind kind ≡ false
 no_directive (Word bytes) plain = refl
 no_directive (Number type value) plain = refl
 no_directive (Character byte) plain = refl
@@ -78,10 +78,10 @@ kept_tokens : (kinds : List Kind) (line place end : ℕ) → ArePlain kinds
 kept_tokens [] line place end plain = refl
 kept_tokens (k ∷ kinds) line place end plain =
     let rest = map (λ (k : Kind). At k line place end) kinds in
-    cond-true (not (is_directive_kind k)) (At k line place end ∷ without_directives rest) (without_directives rest) (ap not (no_directive k (All-head IsPlain k kinds plain)))
-    ∙ ap (λ z. At k line place end ∷ z) (kept_tokens kinds line place end (All-tail IsPlain k kinds plain))
+    cond-true (not (is_directive_kind k)) (At k line place end ∷ without_directives rest) (without_directives rest) (ap not (no_directive k (All-head IsNoDirective k kinds plain)))
+    ∙ ap (λ z. At k line place end ∷ z) (kept_tokens kinds line place end (All-tail IsNoDirective k kinds plain))
 
-kept_found : (table : Table) (found : Option Kind) (line place end : ℕ) → IsPlainTable table → ((kind : Kind) → found ≡ Some kind → IsPlain kind)
+kept_found : (table : Table) (found : Option Kind) (line place end : ℕ) → IsPlainTable table → ((kind : Kind) → found ≡ Some kind → IsNoDirective kind)
     → without_directives (tokens_from table found line place end) ≡ tokens_from table found line place end
 kept_found table None line place end plain one = refl
 kept_found table (Some kind) line place end plain one = kept_tokens (replacement table kind) line place end (replacement_plain table kind plain (one kind refl))

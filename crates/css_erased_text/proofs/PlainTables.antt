@@ -10,24 +10,24 @@ use Rattle.css_lexemes.specs.declared.line_kind.LineKind.{LineKind}
 use Rattle.css_lexemes.specs.declared.line_kind.LineKind.TheVariants as kinds
 use Rattle.css_lexemes.specs.Source.{bytes_of}
 use Rattle.css_lexemes.specs.Lexemes.{Piece}
-use Rattle.css_macros.specs.Macros.{Macro, Table, macro_of, undefined, defined, may_define, IsPlain, replaced, replacement, null_tokens, end_of_file_tokens, predefined_macro, predefined_macros}
+use Rattle.css_macros.specs.Macros.{Macro, Table, macro_of, undefined, defined, may_define, IsNoDirective, replaced, replacement, null_tokens, end_of_file_tokens, predefined_macro, predefined_macros}
 use Rattle.css_lex.specs.Reading.{Definition, kind_of_piece, definition_of, undefined_of, with_definition, without_name, table_by}
 use Rattle.css_macros.proofs.Definitions.{insert-lookup}
 use Rattle.css_macros.proofs.Frames.{undefined-lookup}
 use Rattle.css_lex.proofs.NamedWords.{name_is}
 
 abbrev pub ArePlain : List Kind → Type 0
-ArePlain kinds = All IsPlain kinds
+ArePlain kinds = All IsNoDirective kinds
 
 -- The macros of the table have no directives.
 abbrev pub IsPlainTable : Table → Type 0
 IsPlainTable table = (name : List ℕ) (m : Macro) → macro_of table name ≡ Some m → ArePlain m.tokens
 
 none_plain : ArePlain []
-none_plain = All-nil IsPlain
+none_plain = All-nil IsNoDirective
 
-one_plain : (kind : Kind) → IsPlain kind → ArePlain (kind ∷ [])
-one_plain kind plain = All-cons IsPlain kind [] plain none_plain
+one_plain : (kind : Kind) → IsNoDirective kind → ArePlain (kind ∷ [])
+one_plain kind plain = All-cons IsNoDirective kind [] plain none_plain
 
 one_macro : (m n : Macro) → Some m ≡ Some n → m ≡ n
 one_macro m n e = cc
@@ -53,10 +53,10 @@ undefined_plain table name plain other m is = by (bytes_eq name other) (sym (und
 
 -- The predefined macros.
 null_plain : ArePlain null_tokens
-null_plain = All-from_recursion IsPlain null_tokens (tt, (tt, (tt, (tt, (tt, (tt, (tt, tt)))))))
+null_plain = All-from_recursion IsNoDirective null_tokens (tt, (tt, (tt, (tt, (tt, (tt, (tt, tt)))))))
 
 end_plain : ArePlain end_of_file_tokens
-end_plain = All-from_recursion IsPlain end_of_file_tokens (tt, (tt, (tt, (tt, tt))))
+end_plain = All-from_recursion IsNoDirective end_of_file_tokens (tt, (tt, (tt, (tt, tt))))
 
 pub predefined_plain : IsPlainTable predefined_macros
 predefined_plain name m is = by (bytes_eq name (codes "NULL")) (bytes_eq name (codes "EOF")) is
@@ -67,11 +67,11 @@ predefined_plain name m is = by (bytes_eq name (codes "NULL")) (bytes_eq name (c
     by false false e = absurd cc
 
 -- What pieces stand for.
-found_plain : (found : Option Kind) (kinds : List Kind) → ((kind : Kind) → found ≡ Some kind → IsPlain kind) → ArePlain kinds → ArePlain (cons_option found kinds)
+found_plain : (found : Option Kind) (kinds : List Kind) → ((kind : Kind) → found ≡ Some kind → IsNoDirective kind) → ArePlain kinds → ArePlain (cons_option found kinds)
 found_plain None kinds one rest = rest
-found_plain (Some kind) kinds one rest = All-cons IsPlain kind kinds (one kind refl) rest
+found_plain (Some kind) kinds one rest = All-cons IsNoDirective kind kinds (one kind refl) rest
 
-pub piece_plain : (p : Piece) (kind : Kind) → kind_of_piece p ≡ Some kind → IsPlain kind
+pub piece_plain : (p : Piece) (kind : Kind) → kind_of_piece p ≡ Some kind → IsNoDirective kind
 piece_plain p kind is = (name_is p.shape (bytes_of p.bytes) kind is).1
 
 pieces_plain : (pieces : List Piece) → ArePlain (filter_map kind_of_piece pieces)
@@ -99,18 +99,18 @@ table_plain kinds.Pragma table pieces plain = plain
 table_plain kinds.Unknown table pieces plain = plain
 
 -- What replaces a token.
-all_plain : (f : Kind → List Kind) → ((kind : Kind) → IsPlain kind → ArePlain (f kind)) → (tokens : List Kind) → ArePlain tokens → ArePlain (flat_map f tokens)
+all_plain : (f : Kind → List Kind) → ((kind : Kind) → IsNoDirective kind → ArePlain (f kind)) → (tokens : List Kind) → ArePlain tokens → ArePlain (flat_map f tokens)
 all_plain f each [] all = none_plain
 all_plain f each (k ∷ tokens) all =
-    All-append IsPlain (f k) (flat_map f tokens) (each k (All-head IsPlain k tokens all)) (all_plain f each tokens (All-tail IsPlain k tokens all))
+    All-append IsNoDirective (f k) (flat_map f tokens) (each k (All-head IsNoDirective k tokens all)) (all_plain f each tokens (All-tail IsNoDirective k tokens all))
 
 by_macro : (levels : ℕ) (table : Table) (name : List ℕ) (found : Option Macro) → ((m : Macro) → found ≡ Some m → ArePlain m.tokens)
-    → ((kind : Kind) → IsPlain kind → ArePlain (replaced levels (undefined table name) kind))
+    → ((kind : Kind) → IsNoDirective kind → ArePlain (replaced levels (undefined table name) kind))
     → ArePlain (elim found [ None ↦ Word name ∷ [] | Some m ↦ flat_map (λ k. replaced levels (undefined table name) k) m.tokens ])
 by_macro levels table name None plain each = one_plain (Word name) tt
 by_macro levels table name (Some m) plain each = all_plain (λ k. replaced levels (undefined table name) k) each m.tokens (plain m refl)
 
-replaced_plain : (levels : ℕ) (table : Table) (kind : Kind) → IsPlainTable table → IsPlain kind → ArePlain (replaced levels table kind)
+replaced_plain : (levels : ℕ) (table : Table) (kind : Kind) → IsPlainTable table → IsNoDirective kind → ArePlain (replaced levels table kind)
 replaced_plain zero table kind plain one = one_plain kind one
 replaced_plain (suc levels) table (Word name) plain one =
     by_macro levels table name (macro_of table name) (plain name) (λ k p. replaced_plain levels (undefined table name) k (undefined_plain table name plain) p)
@@ -120,5 +120,5 @@ replaced_plain (suc levels) table (Text bytes) plain one = one_plain (Text bytes
 replaced_plain (suc levels) table (Punctuator bytes) plain one = one_plain (Punctuator bytes) tt
 replaced_plain (suc levels) table (Directive words) plain one = absurd one
 
-pub replacement_plain : (table : Table) (kind : Kind) → IsPlainTable table → IsPlain kind → ArePlain (replacement table kind)
+pub replacement_plain : (table : Table) (kind : Kind) → IsPlainTable table → IsNoDirective kind → ArePlain (replacement table kind)
 replacement_plain table kind plain one = replaced_plain _ table kind plain one

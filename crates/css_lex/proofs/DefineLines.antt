@@ -14,7 +14,7 @@ use Rattle.css_lexemes.specs.Source.{bytes_of}
 use Rattle.css_lexemes.specs.LineKinds.{line_kind}
 use Rattle.css_lexemes.specs.Lexemes.{Piece}
 use Rattle.css_lexemes.specs.Longest.{pieces_of}
-use Rattle.css_macros.specs.Macros.{IsPlain, may_define, defined}
+use Rattle.css_macros.specs.Macros.{IsNoDirective, may_define, defined}
 use Rattle.css_macros.specs.MacroTables.{table_of}
 use Rattle.css_lex.specs.Costs.{State}
 use Rattle.css_lex.specs.Reading.{is_blank_piece, is_identifier, solid, from_solid, behind_first, kind_of_piece, place_of, first_place, definition_at, definition_of, with_definition, table_by}
@@ -148,12 +148,12 @@ one_definition text line name named plain = by (from_name line) refl
           failure = sym (ap failure_of pieces ∙ fails_on p (solid rest) kind some);
         })
 
-pub plain_behind : (text : List ℕ) (pieces : List Piece) → All (λ w. IsPlain (kind_at w)) (behind_name (words_of text pieces))
+pub plain_behind : (text : List ℕ) (pieces : List Piece) → All (λ w. IsNoDirective (kind_at w)) (behind_name (words_of text pieces))
 plain_behind text pieces = by (words_of text pieces) (words_plain text pieces)
   where
-    by : (words : List Lexeme) → All (λ w. IsPlain (kind_at w)) words → All (λ w. IsPlain (kind_at w)) (behind_name words)
+    by : (words : List Lexeme) → All (λ w. IsNoDirective (kind_at w)) words → All (λ w. IsNoDirective (kind_at w)) (behind_name words)
     by [] all = all
-    by (w ∷ words) all = All-tail (λ v. IsPlain (kind_at v)) w words all
+    by (w ∷ words) all = All-tail (λ v. IsNoDirective (kind_at v)) w words all
 
 -- The `#` stands before the pieces that are read.
 pub behind_hash : (n high : ℕ) (line : List SourceByte) → (line_kind (bytes_of line) ≡ kinds.Text → ⊥) → AreBetween 0 high line

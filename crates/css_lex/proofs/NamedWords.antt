@@ -12,7 +12,7 @@ use Rattle.css_lexemes.specs.declared.pieces.Shape.TheVariants as shapes
 use Rattle.css_lexemes.specs.Source.{begins_with, bytes_of}
 use Rattle.css_lexemes.specs.Lexemes.{Piece}
 use Rattle.css_lexemes.specs.Values.{digits_in, value_in, suffixes, suffix_in, candidates, first_type, constant_in, number_in, integer_constant, characters, between_quotes, one_character}
-use Rattle.css_macros.specs.Macros.{IsPlain}
+use Rattle.css_macros.specs.Macros.{IsNoDirective}
 use Rattle.css_lex.specs.Reading.{is_blank_piece, is_identifier, solid, from_solid, behind_first, kind_in, place_of, end_of, undefined_at, undefined_of}
 use Rattle.css_lex.specs.Spelling.{line_at}
 use Rattle.css_lex.specs.Words.{words_of, failure_of}
@@ -21,7 +21,7 @@ use Rattle.css_lex.proofs.Late.{by_kind, word_some, word_none, fails_on, fails_h
 
 -- What a lexeme that is no identifier stands for: no name, and no directive.
 abbrev IsNoName : Kind → Type 0
-IsNoName kind = (word_name kind ≡ None) × IsPlain kind
+IsNoName kind = (word_name kind ≡ None) × IsNoDirective kind
 
 abbrev AllNoNames : Option Kind → Type 0
 AllNoNames found = (kind : Kind) → found ≡ Some kind → IsNoName kind
@@ -68,14 +68,14 @@ text_value (Some values) = one_no_name (Text values) (refl, tt)
 
 -- A piece is a name exactly where it is an identifier.
 pub name_is : (shape : Shape) (bytes : List ℕ) (kind : Kind) → kind_in shape bytes ≡ Some kind
-    → (word_name kind ≡ (if is_identifier shape then Some bytes else None)) × IsPlain kind
+    → (word_name kind ≡ (if is_identifier shape then Some bytes else None)) × IsNoDirective kind
 name_is shapes.Blank bytes kind is = absurd cc
 name_is shapes.Stray bytes kind is = absurd cc
-name_is (shapes.Lexeme classes.Identifier) bytes kind is = let e : Word bytes ≡ kind = cc in subst (λ k. (word_name k ≡ Some bytes) × IsPlain k) e (refl, tt)
+name_is (shapes.Lexeme classes.Identifier) bytes kind is = let e : Word bytes ≡ kind = cc in subst (λ k. (word_name k ≡ Some bytes) × IsNoDirective k) e (refl, tt)
 name_is (shapes.Lexeme classes.Number) bytes kind is = constant_number bytes kind is
 name_is (shapes.Lexeme classes.Character) bytes kind is = character_value (characters 0 (between_quotes bytes)) kind is
 name_is (shapes.Lexeme classes.Text) bytes kind is = text_value (characters 0 (between_quotes bytes)) kind is
-name_is (shapes.Lexeme classes.Punctuator) bytes kind is = let e : Punctuator bytes ≡ kind = cc in subst (λ k. (word_name k ≡ None) × IsPlain k) e (refl, tt)
+name_is (shapes.Lexeme classes.Punctuator) bytes kind is = let e : Punctuator bytes ≡ kind = cc in subst (λ k. (word_name k ≡ None) × IsNoDirective k) e (refl, tt)
 
 pub no_identifier : (shape : Shape) (bytes : List ℕ) → kind_in shape bytes ≡ None → is_identifier shape ≡ false
 no_identifier shapes.Blank bytes is = refl
@@ -87,13 +87,13 @@ no_identifier (shapes.Lexeme classes.Text) bytes is = refl
 no_identifier (shapes.Lexeme classes.Punctuator) bytes is = refl
 
 -- No word is a directive.
-pub words_plain : (text : List ℕ) (pieces : List Piece) → All (λ w. IsPlain (kind_at w)) (words_of text pieces)
-words_plain text [] = All-nil (λ w. IsPlain (kind_at w))
+pub words_plain : (text : List ℕ) (pieces : List Piece) → All (λ w. IsNoDirective (kind_at w)) (words_of text pieces)
+words_plain text [] = All-nil (λ w. IsNoDirective (kind_at w))
 words_plain text (p ∷ pieces) =
-    by_kind p (λ none. subst (All (λ w. IsPlain (kind_at w))) (sym (word_none text p pieces none)) (All-nil (λ w. IsPlain (kind_at w))))
+    by_kind p (λ none. subst (All (λ w. IsNoDirective (kind_at w))) (sym (word_none text p pieces none)) (All-nil (λ w. IsNoDirective (kind_at w))))
     (λ kind is.
-    subst (All (λ w. IsPlain (kind_at w))) (sym (word_some text p pieces kind is))
-    (All-cons (λ w. IsPlain (kind_at w)) (At kind (line_at text (place_of p)) (place_of p) (end_of p)) (words_of text pieces) (name_is p.shape (bytes_of p.bytes) kind is).1
+    subst (All (λ w. IsNoDirective (kind_at w))) (sym (word_some text p pieces kind is))
+    (All-cons (λ w. IsNoDirective (kind_at w)) (At kind (line_at text (place_of p)) (place_of p) (end_of p)) (words_of text pieces) (name_is p.shape (bytes_of p.bytes) kind is).1
     (words_plain text pieces)))
 
 -- The solid pieces behind the first one.

@@ -2,7 +2,7 @@
 ghost use Rattle.std.specs.Prelude.{◌≡◌, ◌≤◌, ◌<◌, All, length, drop, map, IfOk, MatchOption};
 ghost use Rattle.css_base.specs.Tokens.{kind_of, lexeme, lexemes};
 ghost use Rattle.css_lexemes.specs.Longest.{pieces_of};
-ghost use Rattle.css_macros.specs.Macros.{IsPlain};
+ghost use Rattle.css_macros.specs.Macros.{IsNoDirective};
 ghost use Rattle.css_macros.specs.MacroTokens.{plain_kinds};
 ghost use Rattle.css_lex.specs.Reading.{from_solid, behind_first};
 ghost use Rattle.css_lex.specs.HashLines.{opens, word_name, kind_at, only_name, front_name, behind_name};
@@ -64,7 +64,7 @@ pub(crate) fn split_name(mut words: Vec<Token>) -> Option<Named>
 
 /// The tokens of a macro.
 pub(crate) fn macro_tokens(alloc: Global, words: Vec<Token>) -> Result<Vec<MacroToken>, NoMemory>
-    requires { All (λ w. IsPlain (kind_at w)) (lexemes words.items) }
+    requires { All (λ w. IsNoDirective (kind_at w)) (lexemes words.items) }
     ensures { IfOk result (λ tokens. plain_kinds tokens.items ≡ map kind_at (lexemes words.items)) }
 {
     let mut tokens = Vec::new(alloc);

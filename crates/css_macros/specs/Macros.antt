@@ -72,9 +72,9 @@ same_kinds (a ∷ these) (b ∷ those) = same_kind a b && same_kinds these those
 same_kinds _ _ = false
 
 -- A token that isn't a directive: any that a line but a directive's spells.
-abbrev pub IsPlain : Kind → Type 0
-IsPlain (Directive words) = ⊥
-IsPlain _ = Unit {0}
+abbrev pub IsNoDirective : Kind → Type 0
+IsNoDirective (Directive words) = ⊥
+IsNoDirective _ = Unit {0}
 
 -- A name may be defined with these tokens: it isn't defined, is predefined, or is defined with the same tokens (C99 6.10.3
 -- paragraph 2).

@@ -1,7 +1,7 @@
 //! The tokens that stand for a macro's name.
 ghost use Rattle.std.specs.Prelude.{◌≡◌, IfOk};
 ghost use Rattle.css_base.specs.Tokens.{kind_of};
-ghost use Rattle.css_macros.specs.Macros.{IsPlain, same_kind};
+ghost use Rattle.css_macros.specs.Macros.{IsNoDirective, same_kind};
 ghost use Rattle.css_macros.specs.MacroTokens.{plain_kind};
 
 use css_base::{Bytes, IntType, NoMemory, TokenKind};
@@ -37,7 +37,7 @@ impl Drop for MacroToken {
 impl MacroToken {
     /// A token as a macro's token.
     pub fn new(kind: TokenKind) -> MacroToken
-        requires { IsPlain (kind_of kind) }
+        requires { IsNoDirective (kind_of kind) }
         ensures { plain_kind result ≡ kind_of kind }
     {
         match kind {

@@ -14,7 +14,7 @@ use Rattle.css_vm.specs.Code.{Code}
 use Rattle.css_vm.specs.Machine.{State, Begin, At, entry_line, answered}
 use Rattle.css_vm.specs.Soundness.{Spot, IsSound, IsAt, Fits}
 use Rattle.css_vm.specs.Events.{Falls, IsStacked}
-use Rattle.css_main_side.specs.Pending.{Passes}
+use Rattle.css_main_side.specs.OutputBuffer.{Passes}
 use Rattle.css_main_side.specs.Playing.{begins, ComesToVerdict, Side, Stands, Playing, GoesOn, EndsRun}
 use Rattle.css_main_side.specs.Ran.{RanAs, Fails}
 use Rattle.css_main_side.specs.declared.ran.Ran.{Ran}

@@ -1,4 +1,4 @@
-pub mod Pending
+pub mod OutputBuffer
 pub mod Ran
 pub mod Plain
 pub mod Playing

@@ -9,7 +9,7 @@ ghost use Rattle.css_vm.specs.Code.{Routine, routine, code_of, first_line};
 ghost use Rattle.css_main_side.specs.Ran.{RanAs};
 ghost use Rattle.css_main_side.specs.Calls.{EndsUnreturned};
 
-use crate::pending::Pending;
+use crate::output_buffer::OutputBuffer;
 use crate::ran::Ran;
 use css_base::{Ending, IntType, Line, Rule, Stop, Who};
 use css_io::Sink;
@@ -22,7 +22,7 @@ pub(crate) fn stopped<O: Sink>(
     stop: Stop,
     line: Line,
     who: Who,
-    pending: &mut Pending,
+    pending: &mut OutputBuffer,
     out: &mut O,
 ) -> Ran
     ensures { RanAs (Ending.Stopped stop line who) pending.old (change O.written O.faults out.old out.new) result }
@@ -31,7 +31,11 @@ pub(crate) fn stopped<O: Sink>(
 }
 
 // Ends where a call's task didn't return.
-pub(crate) fn unreturned<O: Sink>(answer: YardAnswer, pending: &mut Pending, out: &mut O) -> Ran
+pub(crate) fn unreturned<O: Sink>(
+    answer: YardAnswer,
+    pending: &mut OutputBuffer,
+    out: &mut O,
+) -> Ran
     ensures { EndsUnreturned answer pending.old (change O.written O.faults out.old out.new) result }
 {
     match answer {
@@ -43,14 +47,19 @@ pub(crate) fn unreturned<O: Sink>(answer: YardAnswer, pending: &mut Pending, out
 }
 
 // Ends with a rule that main breaks.
-pub(crate) fn refused<O: Sink>(rule: Rule, line: Line, pending: &mut Pending, out: &mut O) -> Ran
+pub(crate) fn refused<O: Sink>(
+    rule: Rule,
+    line: Line,
+    pending: &mut OutputBuffer,
+    out: &mut O,
+) -> Ran
     ensures { RanAs (Ending.Stopped (Stop.Rule rule) line main) pending.old (change O.written O.faults out.old out.new) result }
 {
     stopped(Stop::Rule(rule), line, Who::Main, pending, out)
 }
 
 // Passes the last output to the sink, and gives the ending.
-pub(crate) fn end<O: Sink>(ending: Ending, pending: &mut Pending, out: &mut O) -> Ran
+pub(crate) fn end<O: Sink>(ending: Ending, pending: &mut OutputBuffer, out: &mut O) -> Ran
     ensures { RanAs ending pending.old (change O.written O.faults out.old out.new) result }
 {
     match pending.flush(out) {

@@ -3,10 +3,10 @@
 
 mod ends;
 mod main_run;
-mod pending;
+mod output_buffer;
 mod ran;
 mod tasks;
 
 pub use main_run::play;
-pub use pending::Pending;
+pub use output_buffer::OutputBuffer;
 pub use ran::Ran;

@@ -12,14 +12,14 @@ ghost use Rattle.css_vm.specs.Machine.{Begin, IsOwed, entry_line};
 ghost use Rattle.css_vm.specs.Soundness.{Spot, IsSound, Fits};
 ghost use Rattle.css_main_side.specs.Calls.{PointsTo, CallEnds, TaskReturns, AnswersCall, AnswersStop};
 ghost use Rattle.css_main_side.specs.Events.{with_answer, Marked, MarkEnds, left_with, finished_space, reply_to_leaving};
-ghost use Rattle.css_main_side.specs.Pending.{Passes};
+ghost use Rattle.css_main_side.specs.OutputBuffer.{Passes};
 ghost use Rattle.css_main_side.specs.Plain.{HasPlainTasks};
 ghost use Rattle.css_main_side.specs.Playing.{begins, ComesToVerdict, IsFresh, IsReady, IsLeft, Stands, GoesOn, EndsRun};
 ghost use Rattle.css_main_side.specs.Ran.{RanAs, Fails};
 ghost use Rattle.css_main_side.specs.Sides.{side};
 
 use crate::ends::{end, first_line, main_of, refused, result_of, stopped, unreturned};
-use crate::pending::Pending;
+use crate::output_buffer::OutputBuffer;
 use crate::ran::Ran;
 use crate::tasks::{pointer_of, record_of, run_alone};
 use css_base::{Ending, Limits, Line, NoMemory, Rule, Stop, Who};
@@ -64,7 +64,7 @@ pub fn play<Y: Yard, O: Sink>(
     ensures verdict { (v : Verdict) → ComesToVerdict limits.now (begins limits.now) (code_of code.now) v → RanAs v.ending v.output (change O.written O.faults out.old out.new) result }
     ensures yard { IsLeft (code_of code.now) limits.now (Y.code yard.new) (Y.limits yard.new) (Y.state yard.new) }
 {
-    let Ok(mut pending) = Pending::new(alloc) else {
+    let Ok(mut pending) = OutputBuffer::new(alloc) else {
         return Ran::NoMemory;
     };
     let Ok(mut main) = Main::new(alloc, code, limits) else {
@@ -106,7 +106,7 @@ impl Main {
         code: &Code,
         limits: &Limits,
         yard: &mut Y,
-        pending: &mut Pending,
+        pending: &mut OutputBuffer,
         out: &mut O,
     ) -> Option<Ran>
         requires sound { (plans : List (List Spot)) × IsSound (code_of code.now) plans }
@@ -146,7 +146,7 @@ impl Main {
         code: &Code,
         limits: &Limits,
         yard: &mut Y,
-        pending: &mut Pending,
+        pending: &mut OutputBuffer,
         out: &mut O,
     ) -> Option<Ran>
         requires sound { (plans : List (List Spot)) × IsSound (code_of code.now) plans }
@@ -182,7 +182,12 @@ impl Main {
     }
 
     // Writes what main writes.
-    fn print<O: Sink>(&mut self, bytes: &[u8], pending: &mut Pending, out: &mut O) -> Option<Ran>
+    fn print<O: Sink>(
+        &mut self,
+        bytes: &[u8],
+        pending: &mut OutputBuffer,
+        out: &mut O,
+    ) -> Option<Ran>
         requires due { self.old.machine.due ≡ Due.Value }
         requires owed { IsOwed self.old.machine.state }
         requires piece { length bytes.now ≤ 65536 }
@@ -216,7 +221,7 @@ impl Main {
         &mut self,
         kind: MarkKind,
         line: Line,
-        pending: &mut Pending,
+        pending: &mut OutputBuffer,
         out: &mut O,
     ) -> Option<Ran>
         requires due { self.old.machine.due ≡ due_at kind }
@@ -243,7 +248,7 @@ impl Main {
     }
 
     // From here on calls make tasks. Some where they do already.
-    fn start<O: Sink>(&mut self, line: Line, pending: &mut Pending, out: &mut O) -> Option<Ran>
+    fn start<O: Sink>(&mut self, line: Line, pending: &mut OutputBuffer, out: &mut O) -> Option<Ran>
         requires due { self.old.machine.due ≡ Due.Signal }
         ensures due { IfNone result (self.new.machine.due ≡ Due.Run) }
         ensures marked { IfNone result (Marked MarkKind.Start (side self.old) (side self.new)) }
@@ -259,7 +264,12 @@ impl Main {
     }
 
     // From here on calls make no tasks, and nothing is pending. Some where they make none already.
-    fn finish<O: Sink>(&mut self, line: Line, pending: &mut Pending, out: &mut O) -> Option<Ran>
+    fn finish<O: Sink>(
+        &mut self,
+        line: Line,
+        pending: &mut OutputBuffer,
+        out: &mut O,
+    ) -> Option<Ran>
         requires due { self.old.machine.due ≡ Due.Signal }
         ensures due { IfNone result (self.new.machine.due ≡ Due.Run) }
         ensures marked { IfNone result (Marked MarkKind.Finish (side self.old) (side self.new)) }
@@ -283,7 +293,7 @@ impl Main {
         limits: &Limits,
         call: &Submitted,
         yard: &mut Y,
-        pending: &mut Pending,
+        pending: &mut OutputBuffer,
         out: &mut O,
     ) -> Option<Ran>
         requires sound { (plans : List (List Spot)) × IsSound (code_of code.now) plans }
@@ -364,7 +374,7 @@ impl Main {
         value: u64,
         line: Line,
         code: &Code,
-        pending: &mut Pending,
+        pending: &mut OutputBuffer,
         out: &mut O,
     ) -> Ran
         requires { (f : Routine) × (slice_get (code_of code.now).functions code.now.main ≡ Some f) }

@@ -8,7 +8,7 @@ use Rattle.css_tree.specs.declared.words.Qualifier.{Qualifier}
 use Rattle.css_tree.specs.Syntax.{Stars, Expression, Dimensions, Initialiser, Value, String, Braces, Initialisers, NoParts, MoreParts, Declarator, Declaration}
 use Rattle.css_tree.specs.Syntax.{Mark, ForStart, DeclareFirst, EvaluateFirst, Statement, Block, Evaluate, If, IfElse, While, Do, For, Break, Continue, Return, Entry, Declared, Marked, Stated, Entries, NoEntries, MoreEntries}
 use Rattle.css_tree.specs.Syntax.{Parameter, Parameters, Empty, VoidAlone, Listed, Body, Function, Item, Define, Declare, Tree}
-use Rattle.css_tree.specs.Parts.{kind_at, kinds, Part, One, These, Are}
+use Rattle.css_tree.specs.TokenParts.{kind_at, kinds, Part, One, These, Are}
 use Rattle.css_tree.specs.Words.{specifier_kind, qualifier_kind, stars_kinds, SpellsSpecifiers, SpellsStars}
 use Rattle.css_tree.specs.Expressions.{SpellsExpression}
 use Rattle.css_tree.specs.Declarations.{SpellsOptional, SpellsDimensions, IsOptionalComma, SpellsInitialiser, SpellsParts, SpellsFurtherParts, SpellsInitial, SpellsDeclarator, SpellsBehindCommas, SpellsBetweenCommas, SpellsDeclaration}
@@ -19,8 +19,8 @@ use Rattle.css_parse.proofs.Nesting.{left_open-append}
 
 -- ---- kinds
 
-IsPlain : Kind → Type 0
-IsPlain kind = (n : ℕ) → open_behind n kind ≡ n
+KeepsOpen : Kind → Type 0
+KeepsOpen kind = (n : ℕ) → open_behind n kind ≡ n
 
 IsOpening : Kind → Type 0
 IsOpening kind = (n : ℕ) → open_behind n kind ≡ suc n
@@ -28,32 +28,32 @@ IsOpening kind = (n : ℕ) → open_behind n kind ≡ suc n
 IsClosing : Kind → Type 0
 IsClosing kind = (n : ℕ) → open_behind (suc n) kind ≡ n
 
-word_plain : (bytes : List ℕ) → IsPlain (Word bytes)
-unfolding IsPlain open_behind
+word_plain : (bytes : List ℕ) → KeepsOpen (Word bytes)
+unfolding KeepsOpen open_behind
 word_plain bytes n = refl
 
-text_plain : (bytes : List ℕ) → IsPlain (tokens.Text bytes)
-unfolding IsPlain open_behind
+text_plain : (bytes : List ℕ) → KeepsOpen (tokens.Text bytes)
+unfolding KeepsOpen open_behind
 text_plain bytes n = refl
 
-directive_plain : (words : Lexemes) → IsPlain (tokens.Directive words)
-unfolding IsPlain open_behind
+directive_plain : (words : Lexemes) → KeepsOpen (tokens.Directive words)
+unfolding KeepsOpen open_behind
 directive_plain words n = refl
 
-comma_plain : IsPlain (Punctuator (codes ","))
-unfolding IsPlain open_behind
+comma_plain : KeepsOpen (Punctuator (codes ","))
+unfolding KeepsOpen open_behind
 comma_plain n = refl
 
-semicolon_plain : IsPlain (Punctuator (codes ";"))
-unfolding IsPlain open_behind
+semicolon_plain : KeepsOpen (Punctuator (codes ";"))
+unfolding KeepsOpen open_behind
 semicolon_plain n = refl
 
-equals_plain : IsPlain (Punctuator (codes "="))
-unfolding IsPlain open_behind
+equals_plain : KeepsOpen (Punctuator (codes "="))
+unfolding KeepsOpen open_behind
 equals_plain n = refl
 
-star_plain : IsPlain (Punctuator (codes "*"))
-unfolding IsPlain open_behind
+star_plain : KeepsOpen (Punctuator (codes "*"))
+unfolding KeepsOpen open_behind
 star_plain n = refl
 
 opens_round : IsOpening (Punctuator (codes "("))
@@ -86,7 +86,7 @@ closes_curly n = omega arith
 data Even : (d : ℕ) (parts : List Part) → Type 0 where
   Done : Even 0 []
   Tokens : {d : ℕ} {us : List Lexeme} {parts : List Part} → IsBalanced us → Even d parts → Even d (These us ∷ parts)
-  Plain : {d : ℕ} {kind : Kind} {parts : List Part} → IsPlain kind → Even d parts → Even d (One kind ∷ parts)
+  Plain : {d : ℕ} {kind : Kind} {parts : List Part} → KeepsOpen kind → Even d parts → Even d (One kind ∷ parts)
   Opens : {d : ℕ} {kind : Kind} {parts : List Part} → IsOpening kind → Even (suc d) parts → Even d (One kind ∷ parts)
   Closes : {d : ℕ} {kind : Kind} {parts : List Part} → IsClosing kind → Even d parts → Even (suc d) (One kind ∷ parts)
 
@@ -94,7 +94,7 @@ level : (d n : ℕ) → suc d + n ≡ suc (d + n)
 level d n = omega arith
 
 even : {d : ℕ} {parts : List Part} → Even d parts → (ts : List Lexeme) → Are ts parts → (n : ℕ) → left_open (d + n) ts ≡ n
-unfolding IsPlain IsOpening IsClosing
+unfolding KeepsOpen IsOpening IsClosing
 even Done ts e n = ap (left_open (0 + n)) e ∙ omega arith
 even {d} (Tokens {us = us} {parts = []} b more) ts e n = ap (left_open (d + n)) e ∙ b (d + n) ∙ even more [] refl n
 even {d} (Tokens {us = us} {parts = part ∷ parts} b more) ts (rest, e, a) n =
@@ -133,7 +133,7 @@ qualifier_words [] n = refl
 qualifier_words (q ∷ all) n = qualifier_words all n
 
 star_words : (stars : Stars) (n : ℕ) → fold open_behind n (stars_kinds stars) ≡ n
-unfolding IsPlain
+unfolding KeepsOpen
 star_words [] n = refl
 star_words (star ∷ stars) n =
     ap (λ k. fold open_behind k (map qualifier_kind star ++ stars_kinds stars)) (star_plain n) ∙ fold-append n (map qualifier_kind star) (stars_kinds stars)

@@ -11,7 +11,7 @@ use Rattle.css_tree.specs.declared.words.Specifier.TheVariants as specifiers
 use Rattle.css_tree.specs.declared.operators.UnaryOperator.{UnaryOperator}
 use Rattle.css_tree.specs.declared.operators.UnaryOperator.TheVariants as unaries
 use Rattle.css_tree.specs.Syntax.{Expression}
-use Rattle.css_tree.specs.Parts.{kind_at}
+use Rattle.css_tree.specs.TokenParts.{kind_at}
 use Rattle.css_tree.specs.Words.{is_keyword, specifier_text}
 use Rattle.css_tree.specs.Expressions as spelled
 use Rattle.css_tree.specs.Expressions.{unary_text, SpellsExpression}

@@ -7,7 +7,7 @@ use Rattle.css_tree.specs.declared.scope.Scope.TheVariants as scopes
 use Rattle.css_tree.specs.declared.words.Specifier.TheVariants as specifiers
 use Rattle.css_tree.specs.Syntax as tree
 use Rattle.css_tree.specs.Syntax.{Stars, Dimensions, Mark, Parameter, Parameters, Empty, VoidAlone, Listed, Body, Function, Item, Define, Declare, Tree}
-use Rattle.css_tree.specs.Parts.{kind_at, first_line, last_line, These, mark, word, Are}
+use Rattle.css_tree.specs.TokenParts.{kind_at, first_line, last_line, These, mark, word, Are}
 use Rattle.css_tree.specs.Words.{specifier_kind, SpellsSpecifiers, SpellsStars}
 use Rattle.css_tree.specs.Declarations.{SpellsBehindCommas, SpellsBetweenCommas, SpellsDimensions}
 use Rattle.css_tree.specs.Items.{SpellsOptionalName, SpellsParameter, SpellsParameters, SpellsOptionalMark, SpellsBody, SpellsFunction, SpellsItem, SpellsProgram}

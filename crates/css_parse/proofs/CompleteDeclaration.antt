@@ -11,7 +11,7 @@ use Rattle.css_tree.specs.declared.words.Qualifier.{Qualifier}
 use Rattle.css_tree.specs.declared.words.Qualifier.TheVariants as qualifiers
 use Rattle.css_tree.specs.Syntax as tree
 use Rattle.css_tree.specs.Syntax.{Stars, Expression, Dimensions, Initialiser, Value, String, Braces, Initialisers, NoParts, MoreParts, Declarator, Declaration}
-use Rattle.css_tree.specs.Parts.{kind_at, line_of, kinds, first_line, One, These, mark, word, Are}
+use Rattle.css_tree.specs.TokenParts.{kind_at, line_of, kinds, first_line, One, These, mark, word, Are}
 use Rattle.css_tree.specs.Words.{specifier_kind, IsAllowed, IsName, is_keyword, SpellsSpecifiers, qualifier_text, qualifier_kind, stars_kinds, SpellsStars}
 use Rattle.css_tree.specs.Expressions as spelled
 use Rattle.css_tree.specs.Expressions.{SpellsExpression}

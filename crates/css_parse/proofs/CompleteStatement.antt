@@ -10,7 +10,7 @@ use Rattle.css_tree.specs.declared.words.Specifier.{Specifier}
 use Rattle.css_tree.specs.declared.words.Specifier.TheVariants as specifiers
 use Rattle.css_tree.specs.Syntax as tree
 use Rattle.css_tree.specs.Syntax.{Expression, Declaration, Mark, ForStart, DeclareFirst, EvaluateFirst, Statement, Entry, Entries, NoEntries, MoreEntries}
-use Rattle.css_tree.specs.Parts.{kind_at, line_of, kinds, first_line, One, These, mark, word, Are}
+use Rattle.css_tree.specs.TokenParts.{kind_at, line_of, kinds, first_line, One, These, mark, word, Are}
 use Rattle.css_tree.specs.Words.{is_keyword, specifier_kind, SpellsSpecifiers}
 use Rattle.css_tree.specs.Expressions.{SpellsExpression}
 use Rattle.css_tree.specs.Declarations.{SpellsOptional, SpellsDeclaration}

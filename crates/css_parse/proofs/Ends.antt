@@ -4,7 +4,7 @@ use Rattle.std.proofs.Math.Seq.{take-append-add}
 use Rattle.std.proofs.lemmas.List.{length-append, length-map, length-take-le, take_at}
 use Rattle.css_base.specs.declared.token.Token.{Token}
 use Rattle.css_base.specs.Tokens.{Lexeme, lexeme, lexemes}
-use Rattle.css_tree.specs.Parts.{last_line}
+use Rattle.css_tree.specs.TokenParts.{last_line}
 use Rattle.css_parse.specs.ItemReadings.{read}
 
 -- what stands before the rest was read

@@ -6,7 +6,7 @@ use Rattle.css_base.specs.Tokens as tokens
 use Rattle.css_base.specs.Tokens.{Kind, Punctuator, Lexeme}
 use Rattle.css_tree.specs.declared.scope.Scope.{Scope}
 use Rattle.css_tree.specs.Syntax.{Expression}
-use Rattle.css_tree.specs.Parts.{kind_at}
+use Rattle.css_tree.specs.TokenParts.{kind_at}
 use Rattle.css_tree.specs.Expressions.{SpellsExpression}
 use Rattle.css_pexpr.specs.declared.level.Level.{Level}
 use Rattle.css_pexpr.specs.Longest.{IsLongest, level_number}

@@ -6,7 +6,7 @@ use Rattle.css_base.specs.Tokens.{Lexeme}
 use Rattle.css_base.specs.declared.static_fault.StaticFault.{StaticFault}
 use Rattle.css_base.specs.declared.static_fault.StaticName.TheVariants as names
 use Rattle.css_tree.specs.Syntax.{Tree}
-use Rattle.css_tree.specs.Parts.{kind_at, line_of}
+use Rattle.css_tree.specs.TokenParts.{kind_at, line_of}
 use Rattle.css_tree.specs.Brackets.{IsShallow, open_behind}
 use Rattle.css_parse.specs.Unsupported.{unsupported_lines, first}
 use Rattle.css_parse.specs.Refusals.{Spells, IsTooDeepAt, IsUnspelledAt, IsRefused, IsAccepted}

@@ -1,7 +1,7 @@
 -- How many brackets are open behind each front of some tokens.
 use Rattle.std.proofs.Common.{◌≡◌, ◌⊎◌, ℕ, ◌+◌, ◌<◌, ◌≤◌, List, [], ◌∷◌, ◌++◌, length, fold, map, refl, sym, ap, ◌∙◌, subst, inl, inr, arith, append_assoc, append-nil}
 use Rattle.css_base.specs.Tokens.{Lexeme}
-use Rattle.css_tree.specs.Parts.{kind_at, line_of}
+use Rattle.css_tree.specs.TokenParts.{kind_at, line_of}
 use Rattle.css_tree.specs.Brackets.{IsShallow, left_open, open_behind}
 use Rattle.css_parse.specs.Refusals.{IsTooDeepAt}
 

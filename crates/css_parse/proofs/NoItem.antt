@@ -5,7 +5,7 @@ use Rattle.css_base.specs.Tokens.{Kind, Word, Punctuator, Lexeme}
 use Rattle.css_tree.specs.declared.scope.Scope.TheVariants as scopes
 use Rattle.css_tree.specs.declared.words.Specifier.{Specifier}
 use Rattle.css_tree.specs.Syntax.{Stars, Dimensions, Initialiser, Declarator, Declaration, Mark, Entries, Parameters, Body, Function, Item, Define, Declare}
-use Rattle.css_tree.specs.Parts.{first_line}
+use Rattle.css_tree.specs.TokenParts.{first_line}
 use Rattle.css_parse.specs.Fronts.{Next}
 use Rattle.css_parse.specs.Words.{ReadsSpecifiers}
 use Rattle.css_parse.specs.Readings.{IsNoNext, ReadsHead, ReadsTail, ReadsDeclarator, ReadsFurtherDeclarators, ReadsDeclarators, ReadsDeclaration, ReadsEntries}

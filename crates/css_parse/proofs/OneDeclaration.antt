@@ -6,7 +6,7 @@ use Rattle.css_tree.specs.declared.scope.Scope.TheVariants as scopes
 use Rattle.css_tree.specs.declared.words.Specifier.{Specifier}
 use Rattle.css_tree.specs.declared.words.Qualifier.{Qualifier}
 use Rattle.css_tree.specs.Syntax.{Stars, Expression, Dimensions, Initialiser, Value, String, Braces, Initialisers, NoParts, MoreParts, Declarator, Declaration}
-use Rattle.css_tree.specs.Parts.{kind_at, first_line}
+use Rattle.css_tree.specs.TokenParts.{kind_at, first_line}
 use Rattle.css_pexpr.specs.declared.level.Level.{Level}
 use Rattle.css_pexpr.specs.declared.level.Level.TheVariants as levels
 use Rattle.css_parse.specs.Fronts.{Next}

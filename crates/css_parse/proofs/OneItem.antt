@@ -5,7 +5,7 @@ use Rattle.css_base.specs.Tokens.{Kind, Word, Punctuator, Lexeme}
 use Rattle.css_tree.specs.declared.scope.Scope.TheVariants as scopes
 use Rattle.css_tree.specs.declared.words.Specifier.{Specifier}
 use Rattle.css_tree.specs.Syntax.{Stars, Dimensions, Initialiser, Declarator, Declaration, Mark, Entries, Parameter, Parameters, Empty, VoidAlone, Listed, Body, Function, Item, Define, Declare, Tree}
-use Rattle.css_tree.specs.Parts.{first_line, last_line}
+use Rattle.css_tree.specs.TokenParts.{first_line, last_line}
 use Rattle.css_parse.specs.Fronts.{Next}
 use Rattle.css_parse.specs.Words.{next_specifier, specifier_of, ReadsSpecifiers, ReadsStars, TakesSpecifiers}
 use Rattle.css_parse.specs.Readings.{ReadsDimensions, ReadsInitial, ReadsName, ReadsHead, ReadsTail, ReadsDeclarators, ReadsFurtherDeclarators, ReadsDeclaration, ReadsMark, ReadsEntries}

@@ -6,7 +6,7 @@ use Rattle.css_tree.specs.declared.scope.Scope.TheVariants as scopes
 use Rattle.css_tree.specs.declared.words.Specifier.{Specifier}
 use Rattle.css_tree.specs.Syntax as tree
 use Rattle.css_tree.specs.Syntax.{Expression, Declaration, Mark, ForStart, DeclareFirst, EvaluateFirst, Statement, Entry, Entries, MoreEntries}
-use Rattle.css_tree.specs.Parts.{kind_at, line_of, first_line}
+use Rattle.css_tree.specs.TokenParts.{kind_at, line_of, first_line}
 use Rattle.css_pexpr.specs.declared.level.Level.TheVariants as levels
 use Rattle.css_parse.specs.declared.form.Form.{Form}
 use Rattle.css_parse.specs.Fronts.{Next}

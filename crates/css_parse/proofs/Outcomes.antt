@@ -6,7 +6,7 @@ use Rattle.css_base.specs.declared.static_fault.StaticFault.{StaticFault}
 use Rattle.css_base.specs.declared.static_fault.StaticName.{StaticName}
 use Rattle.css_base.specs.declared.static_fault.StaticName.TheVariants as names
 use Rattle.css_tree.specs.Syntax.{Tree}
-use Rattle.css_tree.specs.Parts.{line_of}
+use Rattle.css_tree.specs.TokenParts.{line_of}
 use Rattle.css_tree.specs.Brackets.{IsShallow, left_open}
 use Rattle.css_parse.specs.Unsupported.{unsupported_lines, first}
 use Rattle.css_parse.specs.Refusals.{Spells, IsTooDeepAt, IsUnspelledAt, IsRefused, IsAccepted}

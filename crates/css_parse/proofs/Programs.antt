@@ -3,7 +3,7 @@ use Rattle.std.proofs.Common.{◌≡◌, ℕ, ◌+◌, ◌<◌, ◌≤◌, List,
 use Rattle.std.proofs.lemmas.List.{length-append}
 use Rattle.css_base.specs.Tokens.{Lexeme}
 use Rattle.css_tree.specs.Syntax.{Item, Tree}
-use Rattle.css_tree.specs.Parts.{line_of}
+use Rattle.css_tree.specs.TokenParts.{line_of}
 use Rattle.css_parse.specs.Refusals.{Spells, IsUnspelledAt}
 use Rattle.css_parse.specs.ItemReadings.{ReadsItem, ReadsItems}
 use Rattle.css_parse.proofs.OneItem.{one_item}

@@ -5,7 +5,7 @@ use Rattle.css_base.specs.Tokens.{Kind, Word, Punctuator, Lexeme}
 use Rattle.css_tree.specs.declared.scope.Scope.TheVariants as scopes
 use Rattle.css_tree.specs.declared.words.Specifier.{Specifier}
 use Rattle.css_tree.specs.Syntax.{Stars, Mark, Parameter, Parameters, Empty, VoidAlone, Listed, Body, Function, Item, Define, Declare, Tree}
-use Rattle.css_tree.specs.Parts.{kind_at, first_line, last_line, word, Are}
+use Rattle.css_tree.specs.TokenParts.{kind_at, first_line, last_line, word, Are}
 use Rattle.css_tree.specs.Words.{SpellsSpecifiers}
 use Rattle.css_tree.specs.Declarations.{SpellsBehindCommas, SpellsBetweenCommas}
 use Rattle.css_tree.specs.Items.{SpellsOptionalName, SpellsParameter, SpellsParameters, SpellsOptionalMark, SpellsBody, SpellsFunction, SpellsItem, SpellsProgram}

@@ -10,7 +10,7 @@ use Rattle.css_tree.specs.declared.words.Specifier.{Specifier}
 use Rattle.css_tree.specs.declared.words.Qualifier.{Qualifier}
 use Rattle.css_tree.specs.Syntax as tree
 use Rattle.css_tree.specs.Syntax.{Stars, Expression, Dimensions, Initialiser, Value, String, Braces, Initialisers, NoParts, MoreParts, Declarator, Declaration}
-use Rattle.css_tree.specs.Parts.{kind_at, line_of, kinds, first_line}
+use Rattle.css_tree.specs.TokenParts.{kind_at, line_of, kinds, first_line}
 use Rattle.css_tree.specs.Words.{specifier_kind, IsAllowed, SpellsSpecifiers, qualifier_kind, stars_kinds, SpellsStars}
 use Rattle.css_tree.specs.Expressions as spelled
 use Rattle.css_tree.specs.Expressions.{SpellsExpression}

@@ -5,7 +5,7 @@ use Rattle.css_base.specs.Tokens.{Kind, Word, Punctuator, Lexeme}
 use Rattle.css_tree.specs.declared.scope.Scope.TheVariants as scopes
 use Rattle.css_tree.specs.Syntax as tree
 use Rattle.css_tree.specs.Syntax.{Expression, Declaration, Mark, ForStart, DeclareFirst, EvaluateFirst, Statement, Entry, Entries, NoEntries, MoreEntries}
-use Rattle.css_tree.specs.Parts.{kind_at, line_of, first_line}
+use Rattle.css_tree.specs.TokenParts.{kind_at, line_of, first_line}
 use Rattle.css_tree.specs.Statements.{takes_else, SpellsMark, SpellsForStart, SpellsStatement, SpellsEntries, SpellsEntry}
 use Rattle.css_tree.specs.Heights.{height_of_start, height_of_optional, height_of_statement, height_of_entry, height_of_entries}
 use Rattle.css_pexpr.specs.declared.level.Level.TheVariants as levels

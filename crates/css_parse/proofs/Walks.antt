@@ -13,7 +13,7 @@ use Rattle.css_tree.specs.declared.operators.BinaryOperator.TheVariants as binar
 use Rattle.css_tree.specs.declared.operators.AssignOperator.{AssignOperator}
 use Rattle.css_tree.specs.declared.operators.AssignOperator.TheVariants as assignments
 use Rattle.css_tree.specs.Syntax.{TypeName, Expression, Expressions}
-use Rattle.css_tree.specs.Parts.{kind_at, kinds, Part, One, These, mark, word, Are}
+use Rattle.css_tree.specs.TokenParts.{kind_at, kinds, Part, One, These, mark, word, Are}
 use Rattle.css_tree.specs.Words.{SpellsTypeName, specifier_kind, qualifier_kind, stars_kinds}
 use Rattle.css_tree.specs.Expressions as spelled
 use Rattle.css_tree.specs.Expressions.{expr, assign, cond, lor, unary, postfix, level_of, unary_text, binary_text, assign_text, SpellsExpression, SpellsArguments, SpellsFurther}

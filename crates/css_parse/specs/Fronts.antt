@@ -1,7 +1,7 @@
 -- What stands at the front of some tokens.
 use Rattle.std.specs.Prelude.{◌≡◌, ℕ, List, ◌∷◌}
 use Rattle.css_base.specs.Tokens.{Kind, Lexeme}
-use Rattle.css_tree.specs.Parts.{kind_at}
+use Rattle.css_tree.specs.TokenParts.{kind_at}
 
 -- The first token has this kind, and the rest follows.
 pub record Next (kind : Kind) (ts rest : List Lexeme) : Type 0 where

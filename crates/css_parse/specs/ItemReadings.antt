@@ -4,7 +4,7 @@ use Rattle.css_base.specs.Tokens.{Word, Punctuator, Lexeme}
 use Rattle.css_tree.specs.declared.scope.Scope.TheVariants as scopes
 use Rattle.css_tree.specs.declared.words.Specifier.{Specifier}
 use Rattle.css_tree.specs.Syntax.{Stars, Mark, Parameter, Parameters, Empty, VoidAlone, Listed, Body, Function, Item, Define, Declare, Tree}
-use Rattle.css_tree.specs.Parts.{first_line, last_line}
+use Rattle.css_tree.specs.TokenParts.{first_line, last_line}
 use Rattle.css_parse.specs.Fronts.{Next}
 use Rattle.css_parse.specs.Words.{ReadsSpecifiers, ReadsStars}
 use Rattle.css_parse.specs.Readings.{ReadsDimensions, ReadsName, ReadsHead, ReadsDeclaration, ReadsMark, ReadsEntries}

@@ -10,7 +10,7 @@ use Rattle.css_tree.specs.Syntax as tree
 use Rattle.css_tree.specs.Syntax.{Stars, Expression, Dimensions, Initialiser, Value, String, Braces, Initialisers, NoParts, MoreParts, Declarator, Declaration}
 use Rattle.css_tree.specs.Syntax.{Mark, ForStart, DeclareFirst, EvaluateFirst, Statement, Entry, Entries, NoEntries, MoreEntries}
 use Rattle.css_tree.specs.Syntax.{Parameter, Parameters, Empty, VoidAlone, Listed, Body, Function, Item, Define, Declare, Tree}
-use Rattle.css_tree.specs.Parts.{kind_at, line_of, first_line}
+use Rattle.css_tree.specs.TokenParts.{kind_at, line_of, first_line}
 use Rattle.css_tree.specs.Words.{IsName}
 use Rattle.css_tree.specs.Heights.{height, height_of_initialiser}
 use Rattle.css_pexpr.specs.declared.level.Level.{Level}

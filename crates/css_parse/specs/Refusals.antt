@@ -6,7 +6,7 @@ use Rattle.css_base.specs.declared.static_fault.FrontFault.TheVariants as faults
 use Rattle.css_base.specs.declared.static_fault.StaticFault.{StaticFault}
 use Rattle.css_base.specs.declared.static_fault.StaticName.TheVariants as names
 use Rattle.css_tree.specs.Syntax.{Tree}
-use Rattle.css_tree.specs.Parts.{line_of}
+use Rattle.css_tree.specs.TokenParts.{line_of}
 use Rattle.css_tree.specs.Brackets.{IsShallow, left_open}
 use Rattle.css_tree.specs.Heights.{height_of_tree}
 use Rattle.css_tree.specs.Items.{SpellsProgram}

@@ -8,7 +8,7 @@ use Rattle.css_tree.specs.declared.words.Specifier.TheVariants as specifiers
 use Rattle.css_tree.specs.declared.words.Qualifier.{Qualifier}
 use Rattle.css_tree.specs.declared.words.Qualifier.TheVariants as qualifiers
 use Rattle.css_tree.specs.Syntax.{Stars}
-use Rattle.css_tree.specs.Parts.{kind_at}
+use Rattle.css_tree.specs.TokenParts.{kind_at}
 use Rattle.css_tree.specs.Words.{specifier_text, qualifier_text}
 use Rattle.css_parse.specs.Fronts.{Next}
 

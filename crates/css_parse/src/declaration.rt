@@ -2,7 +2,7 @@
 ghost use Rattle.std.specs.Prelude.{◌≡◌, ℕ, ◌≤◌, ◌<◌, List, ◌∷◌, Option, map, IfOk, IsErrOf, option_map, length};
 ghost use Rattle.css_base.specs.Tokens.{Lexeme, lexemes};
 ghost use Rattle.css_tree.specs.Syntax as spec;
-ghost use Rattle.css_tree.specs.Parts.{first_line};
+ghost use Rattle.css_tree.specs.TokenParts.{first_line};
 ghost use Rattle.css_tree.specs.Shapes.{stars, dimensions, initialiser, declarator, declaration};
 ghost use Rattle.css_parse.specs.Readings.{ReadsDimensions, ReadsName, ReadsHead, ReadsTail, ReadsDeclarator, ReadsFurtherDeclarators, ReadsDeclarators, ReadsDeclaration};
 

@@ -4,7 +4,7 @@ ghost use Rattle.css_base.specs.Tokens.{Punctuator, Lexeme, lexemes};
 ghost use Rattle.css_tree.specs.Syntax as spec;
 ghost use Rattle.css_tree.specs.declared.scope.Scope.TheVariants as scopes;
 ghost use Rattle.css_tree.specs.declared.words.Specifier as specs;
-ghost use Rattle.css_tree.specs.Parts.{last_line};
+ghost use Rattle.css_tree.specs.TokenParts.{last_line};
 ghost use Rattle.css_tree.specs.Shapes.{stars, mark, body, item};
 ghost use Rattle.css_parse.specs.Fronts.{Next};
 ghost use Rattle.css_parse.specs.Readings.{ReadsTail, ReadsFurtherDeclarators};

@@ -5,7 +5,7 @@ ghost use Rattle.css_base.specs.Tokens.{Lexeme, Lexemes, kind_of, lexemes};
 ghost use Rattle.css_tree.specs.declared.scope.Scope.TheVariants as scopes;
 ghost use Rattle.css_pexpr.specs.declared.level.Level.TheVariants as grammar;
 ghost use Rattle.css_tree.specs.Syntax as spec;
-ghost use Rattle.css_tree.specs.Parts.{kind_at};
+ghost use Rattle.css_tree.specs.TokenParts.{kind_at};
 ghost use Rattle.css_tree.specs.Shapes.{expression, for_start, statement, mark, entry, listed_entries};
 ghost use Rattle.css_parse.specs.Forms.{form_of};
 ghost use Rattle.css_parse.specs.Words.{next_specifier};

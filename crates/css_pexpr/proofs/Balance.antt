@@ -13,7 +13,7 @@ use Rattle.css_tree.specs.declared.operators.BinaryOperator.TheVariants as binar
 use Rattle.css_tree.specs.declared.operators.AssignOperator.{AssignOperator}
 use Rattle.css_tree.specs.declared.operators.AssignOperator.TheVariants as assignments
 use Rattle.css_tree.specs.Syntax.{Stars, TypeName, Expression, Expressions}
-use Rattle.css_tree.specs.Parts.{kind_at, kinds}
+use Rattle.css_tree.specs.TokenParts.{kind_at, kinds}
 use Rattle.css_tree.specs.Words.{specifier_kind, qualifier_kind, stars_kinds, SpellsTypeName}
 use Rattle.css_tree.specs.Expressions.{binary_text, assign_text, unary_text, SpellsExpression, Comma, Assign, Conditional, Binary, Cast, PreIncrement, PreDecrement, Unary, SizeofExpression, SizeofType, Index, PostIncrement, PostDecrement, Call, Name, Constant, Character, String, Parentheses, SpellsArguments, NoArguments, Arguments, SpellsFurther, NoFurther, Further}
 use Rattle.css_tree.specs.Brackets.{open_behind, left_open, IsBalanced}
@@ -25,47 +25,47 @@ left_open-append n (t ∷ us) vs = left_open-append (open_behind n (kind_at t)) 
 
 -- ---- kinds that are no brackets
 
-IsPlain : Kind → Type 0
-IsPlain kind = (n : ℕ) → open_behind n kind ≡ n
+KeepsOpen : Kind → Type 0
+KeepsOpen kind = (n : ℕ) → open_behind n kind ≡ n
 
-word_plain : (bytes : List ℕ) → IsPlain (Word bytes)
-unfolding IsPlain open_behind
+word_plain : (bytes : List ℕ) → KeepsOpen (Word bytes)
+unfolding KeepsOpen open_behind
 word_plain bytes n = refl
 
-number_plain : (type : IntType) (value : ℕ) → IsPlain (tokens.Number type value)
-unfolding IsPlain open_behind
+number_plain : (type : IntType) (value : ℕ) → KeepsOpen (tokens.Number type value)
+unfolding KeepsOpen open_behind
 number_plain type value n = refl
 
-character_plain : (byte : ℕ) → IsPlain (tokens.Character byte)
-unfolding IsPlain open_behind
+character_plain : (byte : ℕ) → KeepsOpen (tokens.Character byte)
+unfolding KeepsOpen open_behind
 character_plain byte n = refl
 
-text_plain : (bytes : List ℕ) → IsPlain (tokens.Text bytes)
-unfolding IsPlain open_behind
+text_plain : (bytes : List ℕ) → KeepsOpen (tokens.Text bytes)
+unfolding KeepsOpen open_behind
 text_plain bytes n = refl
 
-comma_plain : IsPlain (Punctuator (codes ","))
-unfolding IsPlain open_behind
+comma_plain : KeepsOpen (Punctuator (codes ","))
+unfolding KeepsOpen open_behind
 comma_plain n = refl
 
-question_plain : IsPlain (Punctuator (codes "?"))
-unfolding IsPlain open_behind
+question_plain : KeepsOpen (Punctuator (codes "?"))
+unfolding KeepsOpen open_behind
 question_plain n = refl
 
-colon_plain : IsPlain (Punctuator (codes ":"))
-unfolding IsPlain open_behind
+colon_plain : KeepsOpen (Punctuator (codes ":"))
+unfolding KeepsOpen open_behind
 colon_plain n = refl
 
-increment_plain : IsPlain (Punctuator (codes "++"))
-unfolding IsPlain open_behind
+increment_plain : KeepsOpen (Punctuator (codes "++"))
+unfolding KeepsOpen open_behind
 increment_plain n = refl
 
-decrement_plain : IsPlain (Punctuator (codes "--"))
-unfolding IsPlain open_behind
+decrement_plain : KeepsOpen (Punctuator (codes "--"))
+unfolding KeepsOpen open_behind
 decrement_plain n = refl
 
-binary_plain : (op : BinaryOperator) → IsPlain (Punctuator (binary_text op))
-unfolding IsPlain open_behind
+binary_plain : (op : BinaryOperator) → KeepsOpen (Punctuator (binary_text op))
+unfolding KeepsOpen open_behind
 binary_plain binaries.Multiply n = refl
 binary_plain binaries.Divide n = refl
 binary_plain binaries.Remainder n = refl
@@ -85,8 +85,8 @@ binary_plain binaries.BitOr n = refl
 binary_plain binaries.And n = refl
 binary_plain binaries.Or n = refl
 
-assign_plain : (op : AssignOperator) → IsPlain (Punctuator (assign_text op))
-unfolding IsPlain open_behind
+assign_plain : (op : AssignOperator) → KeepsOpen (Punctuator (assign_text op))
+unfolding KeepsOpen open_behind
 assign_plain assignments.Assign n = refl
 assign_plain assignments.Multiply n = refl
 assign_plain assignments.Divide n = refl
@@ -99,8 +99,8 @@ assign_plain assignments.BitAnd n = refl
 assign_plain assignments.BitXor n = refl
 assign_plain assignments.BitOr n = refl
 
-unary_plain : (op : UnaryOperator) → IsPlain (Punctuator (unary_text op))
-unfolding IsPlain open_behind
+unary_plain : (op : UnaryOperator) → KeepsOpen (Punctuator (unary_text op))
+unfolding KeepsOpen open_behind
 unary_plain unaries.AddressOf n = refl
 unary_plain unaries.Dereference n = refl
 unary_plain unaries.Plus n = refl
@@ -129,11 +129,11 @@ closes_square n = omega arith
 two : (us vs : List Lexeme) → IsBalanced us → IsBalanced vs → IsBalanced (us ++ vs)
 two us vs a b n = left_open-append n us vs ∙ ap (λ k. left_open k vs) (a n) ∙ b n
 
-plain : (t : Lexeme) (kind : Kind) → kind_at t ≡ kind → IsPlain kind → IsBalanced (t ∷ [])
-unfolding IsPlain
+plain : (t : Lexeme) (kind : Kind) → kind_at t ≡ kind → KeepsOpen kind → IsBalanced (t ∷ [])
+unfolding KeepsOpen
 plain t kind is h n = ap (open_behind n) is ∙ h n
 
-led : (t : Lexeme) (us : List Lexeme) (kind : Kind) → kind_at t ≡ kind → IsPlain kind → IsBalanced us → IsBalanced (t ∷ us)
+led : (t : Lexeme) (us : List Lexeme) (kind : Kind) → kind_at t ≡ kind → KeepsOpen kind → IsBalanced us → IsBalanced (t ∷ us)
 led t us kind is h a = two (t ∷ []) (us) (plain t kind is h) a
 
 grouped : (o : Lexeme) (us : List Lexeme) (c : Lexeme) → kind_at o ≡ Punctuator (codes "(") → kind_at c ≡ Punctuator (codes ")") → IsBalanced us → IsBalanced (o ∷ (us ++ c ∷ []))
@@ -162,12 +162,12 @@ unfolding open_behind
 qualifier_words [] n = refl
 qualifier_words (q ∷ all) n = qualifier_words all n
 
-star_plain : IsPlain (Punctuator (codes "*"))
-unfolding IsPlain open_behind
+star_plain : KeepsOpen (Punctuator (codes "*"))
+unfolding KeepsOpen open_behind
 star_plain n = refl
 
 star_words : (stars : Stars) (n : ℕ) → fold open_behind n (stars_kinds stars) ≡ n
-unfolding IsPlain
+unfolding KeepsOpen
 star_words [] n = refl
 star_words (star ∷ stars) n =
     ap (λ k. fold open_behind k (map qualifier_kind star ++ stars_kinds stars)) (star_plain n) ∙ fold-append n (map qualifier_kind star) (stars_kinds stars)

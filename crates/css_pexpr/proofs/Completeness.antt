@@ -6,7 +6,7 @@ use Rattle.css_base.specs.Tokens as tokens
 use Rattle.css_base.specs.Tokens.{Kind, Word, Punctuator, Lexeme, At}
 use Rattle.css_tree.specs.Syntax as tree
 use Rattle.css_tree.specs.Syntax.{TypeName, Expression, Expressions, End, More}
-use Rattle.css_tree.specs.Parts.{One, These, Are, kind_at, line_of, first_line}
+use Rattle.css_tree.specs.TokenParts.{One, These, Are, kind_at, line_of, first_line}
 use Rattle.css_tree.specs.Words.{is_keyword, IsName}
 use Rattle.css_tree.specs.Expressions.{level_of, unary_text, SpellsExpression, Comma, Assign, Conditional, Binary, Cast, PreIncrement, PreDecrement, Unary, SizeofExpression, SizeofType, Index, PostIncrement, PostDecrement, Call, Name, Constant, Character, String, Parentheses, SpellsArguments, NoArguments, Arguments, SpellsFurther, NoFurther, Further}
 use Rattle.css_tree.specs.Heights.{height}

@@ -4,7 +4,7 @@ use Rattle.css_base.specs.Tokens.{Kind, Word, Punctuator, Lexeme}
 use Rattle.css_tree.specs.declared.scope.Scope.{Scope}
 use Rattle.css_tree.specs.Syntax as tree
 use Rattle.css_tree.specs.Syntax.{TypeName, Expression, Expressions, End, More}
-use Rattle.css_tree.specs.Parts.{kind_at, line_of, first_line}
+use Rattle.css_tree.specs.TokenParts.{kind_at, line_of, first_line}
 use Rattle.css_tree.specs.Words.{IsName, SpellsTypeName}
 use Rattle.css_tree.specs.Expressions.{level_of, binary_text, assign_text, unary_text, SpellsExpression, Comma, Assign, Conditional, Binary, Cast, PreIncrement, PreDecrement, Unary, SizeofExpression, SizeofType, Index, PostIncrement, PostDecrement, Call, Name, Constant, Character, String, Parentheses, SpellsArguments, SpellsFurther}
 use Rattle.css_pexpr.specs.declared.prefix.Prefix.{Prefix}

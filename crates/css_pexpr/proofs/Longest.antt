@@ -5,7 +5,7 @@ use Rattle.std.proofs.lemmas.Bool.{le-leb}
 use Rattle.css_base.specs.Tokens.{Lexeme}
 use Rattle.css_tree.specs.declared.scope.Scope.{Scope}
 use Rattle.css_tree.specs.Syntax.{Expression}
-use Rattle.css_tree.specs.Parts.{first_line}
+use Rattle.css_tree.specs.TokenParts.{first_line}
 use Rattle.css_tree.specs.Expressions.{SpellsExpression}
 use Rattle.css_tree.specs.Heights.{height}
 use Rattle.css_pexpr.specs.declared.manner.Manner.{Manner}

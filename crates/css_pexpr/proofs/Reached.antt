@@ -4,7 +4,7 @@ use Rattle.std.specs.Prelude.{option_and_then}
 use Rattle.std.proofs.lemmas.Bool.{le-leb}
 use Rattle.css_base.specs.Tokens.{Kind, Punctuator, Lexeme}
 use Rattle.css_tree.specs.Syntax.{TypeName, Expression, Comma, Assign, Conditional, Binary, Cast, PreIncrement, PreDecrement, Unary, SizeofExpression, SizeofType, Index, PostIncrement, PostDecrement, Call, Name, Number, Text}
-use Rattle.css_tree.specs.Parts.{kind_at, line_of, first_line}
+use Rattle.css_tree.specs.TokenParts.{kind_at, line_of, first_line}
 use Rattle.css_tree.specs.Heights.{height}
 use Rattle.css_pexpr.specs.declared.follow.Joint.{Joint}
 use Rattle.css_pexpr.specs.declared.follow.Joint.TheVariants as joints

@@ -6,7 +6,7 @@ use Rattle.css_base.specs.Tokens as tokens
 use Rattle.css_base.specs.Tokens.{Kind, Punctuator, Lexeme, At}
 use Rattle.css_tree.specs.declared.operators.BinaryOperator.{BinaryOperator}
 use Rattle.css_tree.specs.declared.operators.BinaryOperator.TheVariants as binaries
-use Rattle.css_tree.specs.Parts.{kind_at, line_of, first_line}
+use Rattle.css_tree.specs.TokenParts.{kind_at, line_of, first_line}
 use Rattle.css_tree.specs.Expressions.{level_of}
 use Rattle.css_pexpr.specs.declared.prefix.Prefix.{Prefix}
 use Rattle.css_pexpr.specs.declared.prefix.Prefix.TheVariants as prefixes

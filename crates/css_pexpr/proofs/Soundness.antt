@@ -12,7 +12,7 @@ use Rattle.css_tree.specs.declared.words.Specifier.{Specifier}
 use Rattle.css_tree.specs.declared.words.Qualifier.{Qualifier}
 use Rattle.css_tree.specs.Syntax as tree
 use Rattle.css_tree.specs.Syntax.{Stars, TypeName, Expression, Expressions, End, More}
-use Rattle.css_tree.specs.Parts.{kind_at, line_of, first_line, kinds, One, These, Are}
+use Rattle.css_tree.specs.TokenParts.{kind_at, line_of, first_line, kinds, One, These, Are}
 use Rattle.css_tree.specs.Words.{is_keyword, IsName, IsAllowed, specifier_kind, qualifier_kind, stars_kinds, SpellsTypeName}
 use Rattle.css_tree.specs.Expressions.{SpellsExpression, SizeofType, Index, PostIncrement, PostDecrement, Call, Name, Constant, Character, String, Parentheses, SpellsArguments, NoArguments, SpellsFurther, NoFurther, Further}
 use Rattle.css_pexpr.specs.declared.prefix.Prefix.{Prefix}

@@ -6,7 +6,7 @@ use Rattle.css_base.specs.Tokens.{Kind, Word, Punctuator, Lexeme, At}
 use Rattle.css_tree.specs.declared.words.Specifier.{Specifier}
 use Rattle.css_tree.specs.declared.words.Qualifier.{Qualifier}
 use Rattle.css_tree.specs.Syntax.{Stars, TypeName}
-use Rattle.css_tree.specs.Parts.{kind_at, line_of, kinds}
+use Rattle.css_tree.specs.TokenParts.{kind_at, line_of, kinds}
 use Rattle.css_tree.specs.Words.{specifier_text, specifier_kind, qualifier_text, qualifier_kind, stars_kinds, is_keyword, IsAllowed, SpellsTypeName}
 use Rattle.css_pexpr.specs.Signs.{specifier_of, qualifier_spelled}
 use Rattle.css_pexpr.specs.declared.prefix.Prefix.TheVariants as prefixes

@@ -13,7 +13,7 @@ use Rattle.css_tree.specs.declared.words.Specifier.{Specifier}
 use Rattle.css_tree.specs.declared.words.Qualifier.{Qualifier}
 use Rattle.css_tree.specs.Syntax as tree
 use Rattle.css_tree.specs.Syntax.{Stars, TypeName, Expression}
-use Rattle.css_tree.specs.Parts.{kind_at, line_of, first_line, kinds}
+use Rattle.css_tree.specs.TokenParts.{kind_at, line_of, first_line, kinds}
 use Rattle.css_tree.specs.Words.{is_keyword, IsName, IsAllowed, specifier_kind, qualifier_kind, stars_kinds, SpellsTypeName}
 use Rattle.css_tree.specs.Expressions.{SpellsExpression, SizeofType, PostIncrement, PostDecrement, Call, Name, Constant, Character, String, SpellsArguments, NoArguments, Arguments, SpellsFurther}
 use Rattle.css_pexpr.specs.declared.prefix.Prefix.{Prefix}

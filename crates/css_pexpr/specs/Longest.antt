@@ -6,7 +6,7 @@ use Rattle.css_base.specs.declared.static_fault.FrontFault.TheVariants as faults
 use Rattle.css_base.specs.declared.static_fault.StaticName.TheVariants as names
 use Rattle.css_tree.specs.declared.scope.Scope.{Scope}
 use Rattle.css_tree.specs.Syntax.{Expression}
-use Rattle.css_tree.specs.Parts.{line_of}
+use Rattle.css_tree.specs.TokenParts.{line_of}
 use Rattle.css_tree.specs.Expressions.{expr, assign, cond, SpellsExpression}
 use Rattle.css_tree.specs.Heights.{height}
 use Rattle.css_pexpr.specs.declared.level.Level.{Level}

@@ -3,7 +3,7 @@ use Rattle.std.proofs.Common.{◌≡◌, ℕ, List, [], ◌∷◌, length, Vec, 
 use Rattle.css_tree.specs.declared.expression.Expression as code
 use Rattle.css_tree.specs.Syntax.{Call}
 use Rattle.css_tree.specs.Shapes.{expression, listed}
-use Rattle.css_tree.proofs.Rows.{expression-Call}
+use Rattle.css_tree.proofs.ChildLists.{expression-Call}
 use Rattle.css_small.specs.Names.{Names}
 use Rattle.css_small.specs.Trees.{effect_of, call_of}
 

@@ -14,7 +14,7 @@ use Rattle.css_small.specs.Tree.{Function, Program}
 use Rattle.css_small.specs.Numbers.{IsNumbered, HasNumbers}
 use Rattle.css_small_code.specs.Meaning.{Calling, applied, left, plain_call, task_call_of, task_body, called, calls, frame_of, source}
 use Rattle.css_small_code.proofs.Places.{scope_of, item_at, holds_at}
-use Rattle.css_small_code.proofs.Spending.{IsPlain, TakesUnit, Ends, ends_reply_from, ends_reply, takes_reply, ends_if, Spends, CallsEnd, ends_applied, ends_left, ends_plain_call, ends_source, not_tired}
+use Rattle.css_small_code.proofs.Spending.{IsNoMark, TakesUnit, Ends, ends_reply_from, ends_reply, takes_reply, ends_if, Spends, CallsEnd, ends_applied, ends_left, ends_plain_call, ends_source, not_tired}
 
 -- ---- what is done breaks no rule
 
@@ -39,7 +39,7 @@ one_unit (Enter size) takes = refl
 one_unit Turn takes = refl
 one_unit action takes = absurd takes
 
-takes_plain : (action : Action) → TakesUnit action → IsPlain action
+takes_plain : (action : Action) → TakesUnit action → IsNoMark action
 takes_plain (Calls call) takes = takes
 takes_plain Returns takes = takes
 takes_plain action takes = tt
@@ -50,11 +50,11 @@ allowed (Some rule) reply value e = cc
 
 -- ---- main, and a task
 
-none_after : (action : Action) → IsPlain action → body_after None action ≡ None
+none_after : (action : Action) → IsNoMark action → body_after None action ≡ None
 none_after (Calls call) plain = absurd plain
 none_after action plain = refl
 
-some_after : (b : Body) (action : Action) → IsPlain action → body_after (Some b) action ≡ Some (body_behind b action)
+some_after : (b : Body) (action : Action) → IsNoMark action → body_after (Some b) action ≡ Some (body_behind b action)
 some_after b (Calls call) plain = absurd plain
 some_after b Returns plain = absurd plain
 some_after b action plain = refl
@@ -118,15 +118,15 @@ module _ (limits : Limits) (from : FlatState) where
       let all = none_broken (checks_of_task limits b action) none in
       unit_left limits.task_units b.units action takes all.1.1.1.1.1.0
 
-  main_stays : (action : Action) (line : ℕ) (tape : Tape) → IsPlain action → IsMain tape → IsMain (item action line ∷ tape)
+  main_stays : (action : Action) (line : ℕ) (tape : Tape) → IsNoMark action → IsMain tape → IsMain (item action line ∷ tape)
   main_stays action line tape plain is = ap (λ b. body_after b action) is ∙ none_after action plain
 
-  task_stays : (units : ℕ) (action : Action) (line : ℕ) (tape : Tape) → IsPlain action → IsTask units tape → IsTask units (item action line ∷ tape)
+  task_stays : (units : ℕ) (action : Action) (line : ℕ) (tape : Tape) → IsNoMark action → IsTask units tape → IsTask units (item action line ∷ tape)
   task_stays units action line tape plain is =
       (body_behind is.0 action, ap (λ b. body_after b action) is.1 ∙ some_after is.0 action plain, counts_not is.0 action line tape is.1 ∙ is.2)
 
   -- a task's units grow by its actions
-  task_counts : (units : ℕ) (action : Action) (line : ℕ) (tape : Tape) → IsPlain action → (is : IsTask units tape) → used (body (item action line ∷ tape)) ≡ is.0.units + unit_of action
+  task_counts : (units : ℕ) (action : Action) (line : ℕ) (tape : Tape) → IsNoMark action → (is : IsTask units tape) → used (body (item action line ∷ tape)) ≡ is.0.units + unit_of action
   task_counts units action line tape plain is = ap used (ap (λ b. body_after b action) is.1 ∙ some_after is.0 action plain)
 
   main_spends : Spends IsMain main_left w

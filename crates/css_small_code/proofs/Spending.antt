@@ -16,17 +16,17 @@ use Rattle.css_small_code.specs.Meaning.{address_of, element_of, given, is_true,
 use Rattle.css_small_code.proofs.Places.{scope_of}
 
 -- neither the call of a task nor its return
-abbrev pub IsPlain : Action → Type 0
-IsPlain (Calls call) = ⊥
-IsPlain Returns = ⊥
-IsPlain action = Unit {0}
+abbrev pub IsNoMark : Action → Type 0
+IsNoMark (Calls call) = ⊥
+IsNoMark Returns = ⊥
+IsNoMark action = Unit {0}
 
 abbrev pub TakesUnit : Action → Type 0
 TakesUnit (Enter size) = Unit {0}
 TakesUnit Turn = Unit {0}
 TakesUnit action = ⊥
 
-mark_plain : (kind : Directive) → IsPlain (action_of kind)
+mark_plain : (kind : Directive) → IsNoMark (action_of kind)
 mark_plain directives.Start = tt
 mark_plain directives.Finish = tt
 mark_plain directives.Barrier = tt
@@ -90,7 +90,7 @@ module _ (IsIn : Tape → Type 0) (units_at : Tape → ℕ) where
 
   -- inside, what is asked doesn't lead out, but for a task's call and its return, gives no units, and takes one where it is to
   pub record Spends (w : World) : Type 0 where
-    pub asks : (action : Action) (line : ℕ) (tape : Tape) → IsPlain action → IsIn tape → Ends tape (ask w action line tape)
+    pub asks : (action : Action) (line : ℕ) (tape : Tape) → IsNoMark action → IsIn tape → Ends tape (ask w action line tape)
     pub takes : (action : Action) (line : ℕ) (tape : Tape) → TakesUnit action → IsIn tape → Takes tape (ask w action line tape)
 
   module _ (w : World) (spends : Spends w) where

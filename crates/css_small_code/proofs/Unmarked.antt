@@ -13,15 +13,15 @@ use Rattle.css_vm.specs.declared.code.Op.TheVariants as ops
 use Rattle.css_vm.specs.Code.{Routine, first_line}
 use Rattle.css_small.specs.Tree.{Expression, Number, Variable, Element, Unary, Binary, And, Or, Statement, Declare, Initialise, Empty, Assign, AssignElement, Call, Mark, Put, Return, Block, If, IfElse, While, Statements, End, More, Function, Program}
 use Rattle.css_small_code.specs.Code.{unary_code, binary_code, expression_code, element_code, pointer_code, index_code, truth_code, in_line, is_task_there, call_code, assignment_code, statement_code, statements_code, entry_code, end_code, body_code, function_code, main_code, program_code}
-use Rattle.css_small_code.specs.Marks.{IsUnmarked, AreUnmarked, HasNoDirectives, IsPlain, HasNoMarks}
+use Rattle.css_small_code.specs.Marks.{IsUnmarked, AreUnmarked, HasNoDirectives, IsNoMark, HasNoMarks}
 
--- the test for `IsPlain`
+-- the test for `IsNoMark`
 abbrev is_plain : Op → Bool
 is_plain (ops.Submit k) = false
 is_plain (ops.Mark kind) = false
 is_plain op = true
 
-plain_by_test : (op : Op) → is_plain op ≡ true → IsPlain op
+plain_by_test : (op : Op) → is_plain op ≡ true → IsNoMark op
 plain_by_test (ops.Submit k) e = cc
 plain_by_test (ops.Mark kind) e = cc
 plain_by_test (ops.Push v) e = tt
@@ -225,7 +225,7 @@ and_parts : (a b : Bool) → (a && b) ≡ true → (a ≡ true) × (b ≡ true)
 and_parts true b h = (refl, h)
 and_parts false b h = cc
 
-tested : (all : List Instr) → ArePlainHere all → AllByRecursion (λ i. IsPlain i.op) all
+tested : (all : List Instr) → ArePlainHere all → AllByRecursion (λ i. IsNoMark i.op) all
 unfolding ArePlainHere
 tested [] h = tt
 tested (i ∷ all) h =
@@ -241,13 +241,13 @@ none_there (f ∷ functions) h zero = h.0.0
 none_there (f ∷ functions) h (suc k) = none_there functions h.1 k
 
 abbrev IsMarkless : Routine → Type 0
-IsMarkless f = All (λ i. IsPlain i.op) f.body
+IsMarkless f = All (λ i. IsNoMark i.op) f.body
 
 functions_plain : (functions : List Function) → AllByRecursion Meets functions → (last : Routine) → IsMarkless last → AllByRecursion IsMarkless (map function_code functions ++ last ∷ [])
 unfolding ArePlainHere
 functions_plain [] h last plain = (plain, tt)
 functions_plain (f ∷ functions) h last plain =
-    (All-from_recursion (λ i. IsPlain i.op) _ (tested _ (body_plain [] (λ k. refl) f [] refl h.0.1)), functions_plain functions h.1 last plain)
+    (All-from_recursion (λ i. IsNoMark i.op) _ (tested _ (body_plain [] (λ k. refl) f [] refl h.0.1)), functions_plain functions h.1 last plain)
 
 -- the code of a program without directives has no marks
 pub no_marks : (p : Program) → HasNoDirectives p → HasNoMarks (program_code p)
@@ -256,4 +256,4 @@ no_marks p h =
     let none = none_there p.functions by_recursion in
     let main = body_plain p.functions none p.main (entry_code p.functions p.main) (entry_plain p.functions none p.main) h.main in
     All-from_recursion IsMarkless _
-    (functions_plain p.functions by_recursion (main_code p.functions p.main) (All-from_recursion (λ i. IsPlain i.op) _ (tested _ main)))
+    (functions_plain p.functions by_recursion (main_code p.functions p.main) (All-from_recursion (λ i. IsNoMark i.op) _ (tested _ main)))

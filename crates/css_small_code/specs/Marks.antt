@@ -25,10 +25,10 @@ pub record HasNoDirectives (p : Program) : Type 0 where
   pub main : AreUnmarked p.main.body
 
 -- an instruction neither makes a task nor tells the runtime of a mark
-abbrev pub IsPlain : Op → Type 0
-IsPlain (ops.Submit k) = ⊥
-IsPlain (ops.Mark kind) = ⊥
-IsPlain op = Unit {0}
+abbrev pub IsNoMark : Op → Type 0
+IsNoMark (ops.Submit k) = ⊥
+IsNoMark (ops.Mark kind) = ⊥
+IsNoMark op = Unit {0}
 
 abbrev pub HasNoMarks : Code → Type 0
-HasNoMarks code = All (λ f. All (λ i. IsPlain i.op) f.body) code.functions
+HasNoMarks code = All (λ f. All (λ i. IsNoMark i.op) f.body) code.functions

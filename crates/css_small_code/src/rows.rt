@@ -4,7 +4,7 @@ ghost use Rattle.css_semantics.specs.Dialogue.{output, tape_of};
 ghost use Rattle.css_semantics.specs.Flat.{flat};
 ghost use Rattle.css_semantics.specs.Verdict.{verdict, judged_in};
 ghost use Rattle.css_small_code.specs.Meaning.{source};
-ghost use Rattle.css_small_code.specs.Rows.{row_limits, row_start, waits, writes_outside, never_waits, verdict_of_waits, verdict_of_writes_outside, verdict_of_never_waits, tape_of_sum, tape_of_task, tape_of_waits};
+ghost use Rattle.css_small_code.specs.WorkedPrograms.{row_limits, row_start, waits, writes_outside, never_waits, verdict_of_waits, verdict_of_writes_outside, verdict_of_never_waits, tape_of_sum, tape_of_task, tape_of_waits};
 
 /// A task adds one to `x`, which is 4, and main waits at a barrier before it writes `48 + x`: `5` is written.
 pub fn waiting_writes_five()

@@ -2,7 +2,7 @@
 use Rattle.std.specs.Prelude.{◌≡◌, ℕ, ◌+◌, ◌-◌, ◌≤◌, List, [], ◌∷◌, ◌++◌, fold, codes, Bool, false, if◌then◌else◌, bytes_eq}
 use Rattle.std.specs.List.{list_any}
 use Rattle.css_base.specs.Tokens.{Kind, Punctuator, Lexeme}
-use Rattle.css_tree.specs.Parts.{kinds}
+use Rattle.css_tree.specs.TokenParts.{kinds}
 
 -- a punctuator that is one of these
 abbrev pub is_one_of : List (List ℕ) → Kind → Bool

@@ -8,7 +8,7 @@ use Rattle.css_base.specs.Tokens as tokens
 use Rattle.css_base.specs.Tokens.{Lexeme}
 use Rattle.css_tree.specs.declared.scope.Scope.{Scope}
 use Rattle.css_tree.specs.Syntax.{Expression, Dimensions, Initialiser, Value, String, Braces, Initialisers, NoParts, MoreParts, Declarator, Declaration}
-use Rattle.css_tree.specs.Parts.{One, These, mark, word, Are, first_line}
+use Rattle.css_tree.specs.TokenParts.{One, These, mark, word, Are, first_line}
 use Rattle.css_tree.specs.Words.{IsName, SpellsSpecifiers, SpellsStars}
 use Rattle.css_tree.specs.Expressions.{assign, cond, SpellsExpression}
 

@@ -23,7 +23,7 @@ use Rattle.css_tree.specs.declared.operators.AssignOperator.{AssignOperator}
 use Rattle.css_tree.specs.declared.operators.AssignOperator.TheVariants as assignments
 use Rattle.css_tree.specs.Syntax as tree
 use Rattle.css_tree.specs.Syntax.{TypeName, Expression, Expressions, End, More}
-use Rattle.css_tree.specs.Parts.{One, These, mark, word, Are, first_line}
+use Rattle.css_tree.specs.TokenParts.{One, These, mark, word, Are, first_line}
 use Rattle.css_tree.specs.Words.{IsName, SpellsTypeName}
 
 -- ---- operators

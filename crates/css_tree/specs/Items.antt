@@ -8,7 +8,7 @@ use Rattle.std.specs.Prelude.{◌≡◌, ℕ, List, [], ◌∷◌, codes, Option
 use Rattle.css_base.specs.Tokens.{Lexeme}
 use Rattle.css_tree.specs.declared.scope.Scope.TheVariants as scopes
 use Rattle.css_tree.specs.Syntax.{Mark, Parameter, Parameters, Empty, VoidAlone, Listed, Body, Function, Item, Define, Declare, Tree}
-use Rattle.css_tree.specs.Parts.{These, mark, word, Are, first_line, last_line}
+use Rattle.css_tree.specs.TokenParts.{These, mark, word, Are, first_line, last_line}
 use Rattle.css_tree.specs.Words.{IsName, SpellsSpecifiers, SpellsStars}
 use Rattle.css_tree.specs.Declarations.{SpellsBetweenCommas, SpellsDimensions, SpellsDeclaration}
 use Rattle.css_tree.specs.Statements.{SpellsMark, SpellsBlock}

@@ -11,7 +11,7 @@ use Rattle.css_base.specs.Tokens as tokens
 use Rattle.css_base.specs.Tokens.{Lexeme}
 use Rattle.css_tree.specs.declared.scope.Scope.TheVariants as scopes
 use Rattle.css_tree.specs.Syntax.{Mark, ForStart, DeclareFirst, EvaluateFirst, Statement, Block, Evaluate, If, IfElse, While, Do, For, Break, Continue, Return, Entry, Declared, Marked, Stated, Entries, NoEntries, MoreEntries}
-use Rattle.css_tree.specs.Parts.{One, These, mark, word, Are, first_line}
+use Rattle.css_tree.specs.TokenParts.{One, These, mark, word, Are, first_line}
 use Rattle.css_tree.specs.Expressions.{expr, SpellsExpression}
 use Rattle.css_tree.specs.Declarations.{SpellsOptional, SpellsDeclaration}
 

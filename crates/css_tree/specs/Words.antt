@@ -13,7 +13,7 @@ use Rattle.css_tree.specs.declared.words.Specifier.TheVariants as specifiers
 use Rattle.css_tree.specs.declared.words.Qualifier.{Qualifier}
 use Rattle.css_tree.specs.declared.words.Qualifier.TheVariants as qualifiers
 use Rattle.css_tree.specs.Syntax.{Stars, TypeName}
-use Rattle.css_tree.specs.Parts.{kinds, These, Are}
+use Rattle.css_tree.specs.TokenParts.{kinds, These, Are}
 
 -- The keywords of C99 (6.4.1).
 abbrev pub keywords : List (List ℕ)

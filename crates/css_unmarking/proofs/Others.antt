@@ -4,7 +4,7 @@ use Rattle.std.proofs.lemmas.List.{map-append}
 use Rattle.std.proofs.lemmas.List.Elements.{filter-append}
 use Rattle.css_base.specs.Tokens.{Kind, Lexeme, At}
 use Rattle.css_lex.specs.WithoutDirectives.{is_directive_kind, is_directive, without_directives, kind_and_line, kinds_and_lines}
-use Rattle.css_tree.specs.Parts.{kind_at, line_of, kinds, first_line, last_line, Part, One, These, Are, mark, word}
+use Rattle.css_tree.specs.TokenParts.{kind_at, line_of, kinds, first_line, last_line, Part, One, These, Are, mark, word}
 
 -- ---- tokens of the same kinds and lines
 

@@ -2,7 +2,7 @@
 use Rattle.std.proofs.Common.{◌≡◌, ℕ, List, [], ◌∷◌, codes, Option, Some, None, option_map, sym, ◌∙◌}
 use Rattle.css_base.specs.Tokens.{Lexeme}
 use Rattle.css_tree.specs.Syntax.{Mark, Block, Parameter, Parameters, Empty, VoidAlone, Listed, Body, Item, Define, Declare, Tree}
-use Rattle.css_tree.specs.Parts.{word, Are}
+use Rattle.css_tree.specs.TokenParts.{word, Are}
 use Rattle.css_tree.specs.Items.{SpellsOptionalName, SpellsParameter, SpellsParameters, SpellsOptionalMark, SpellsBody, SpellsItem, SpellsProgram}
 use Rattle.css_tree.specs.Marks.{unmarked_body, unmarked_item, unmarked}
 use Rattle.css_unmarking.proofs.Others.{Same, Done, Tokens, Sign, Named, same_parts, first_same, Plain, plain_parts, AreOthers, others_same, others_parts, starts, first_others, Ends, ends, last_others}

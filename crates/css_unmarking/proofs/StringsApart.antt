@@ -3,7 +3,7 @@ use Rattle.std.proofs.Common.{◌≡◌, Bool, true, false, List, [], ◌∷◌,
 use Rattle.std.specs.Prelude.{ℕ, IsTrue}
 use Rattle.std.proofs.lemmas.List.Elements.{All-head, All-tail}
 use Rattle.css_base.specs.Tokens.{Kind, Text, Directive, Lexeme, At}
-use Rattle.css_tree.specs.Parts.{kind_at, kinds, Part, One, These, Are}
+use Rattle.css_tree.specs.TokenParts.{kind_at, kinds, Part, One, These, Are}
 use Rattle.css_lex.specs.WithoutDirectives.{is_string, is_directive, HasPartedStrings}
 
 -- no string was last, one was, or two met

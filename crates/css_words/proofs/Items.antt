@@ -2,8 +2,8 @@
 use Rattle.std.proofs.Common.{◌≡◌, ◌∙◌, ◌≢◌, ◌⊎◌, ℕ, suc, true, false, List, [], ◌∷◌, ◌++◌, ◌<◌, length, get_or, codes, refl, sym, ap, inl, inr, arith}
 use Rattle.css_words.specs.declared.options.OptionName.{OptionName}
 use Rattle.css_words.specs.Options.{Text, option_name, kind_of}
-use Rattle.css_words.specs.Items.{Item, Raised, Apart, Joined, Operand, IsItem, IsPlain, spelling, is_flag}
-use Rattle.css_words.specs.Parts.{NothingStandsFirst}
+use Rattle.css_words.specs.Items.{Item, Raised, Apart, Joined, Operand, IsItem, IsPlainWord, spelling, is_flag}
+use Rattle.css_words.specs.KeptWords.{NothingStandsFirst}
 use Rattle.css_words.proofs.Names.{NoEquals, no_equals, named, same_option}
 
 abbrev rest_of : {X : Type 0} → List X → List X
@@ -38,7 +38,7 @@ split_same (x ∷ xs) (y ∷ ys) us vs n m e =
     (cc, p.1)
 
 -- what begins with two dashes is an option
-dashed : (word rest : Text) → (word ≡ codes "-") ⊎ IsPlain word → word ≡ 45 ∷ 45 ∷ rest → ⊥
+dashed : (word rest : Text) → (word ≡ codes "-") ⊎ IsPlainWord word → word ≡ 45 ∷ 45 ∷ rest → ⊥
 dashed [] rest h e = cc
 dashed (b ∷ bs) rest (inl h) e = let bad : [] ≡ 45 ∷ rest = sym (ap rest_of h) ∙ ap rest_of e in cc
 dashed (b ∷ bs) rest (inr h) e = let first : b ≡ 45 = cc in h first
@@ -87,7 +87,7 @@ dashes_alone words (Joined o v) rest h = no_joined (option_name o) v (sym (ap (�
 dashes_alone words (Operand w) rest h = dashed w [] h.is_item (sym (ap head_of h.spelled))
 
 -- What is no operand and doesn't begin with two dashes is nothing.
-pub no_operand : (word : Text) (words : List Text) → ((rest : List ℕ) → word ≢ codes "--" ++ rest) → ((word ≡ codes "-") ⊎ IsPlain word → ⊥) → NothingStandsFirst (word ∷ words)
+pub no_operand : (word : Text) (words : List Text) → ((rest : List ℕ) → word ≢ codes "--" ++ rest) → ((word ≡ codes "-") ⊎ IsPlainWord word → ⊥) → NothingStandsFirst (word ∷ words)
 no_operand word words bare_word refused (Raised o) rest h = bare_word (option_name o) (ap head_of h.spelled)
 no_operand word words bare_word refused (Apart o v) rest h = bare_word (option_name o) (ap head_of h.spelled)
 no_operand word words bare_word refused (Joined o v) rest h = bare_word (option_name o ++ (61 ∷ v)) (ap head_of h.spelled)
@@ -107,7 +107,7 @@ no_joined_option name value words n absent (Operand w) rest h = dashed w (name +
 -- What is written without `=` is nothing where its name is no flag's, and no option's whose value follows.
 pub no_apart_option : (name : Text) (words : List Text) → NoEquals name
     → ((o : OptionName) → option_name o ≡ name → is_flag (kind_of o) ≡ true → ⊥)
-    → ((o : OptionName) (value : Text) (rest : List Text) → option_name o ≡ name → is_flag (kind_of o) ≡ false → words ≡ value ∷ rest → IsPlain value → ⊥)
+    → ((o : OptionName) (value : Text) (rest : List Text) → option_name o ≡ name → is_flag (kind_of o) ≡ false → words ≡ value ∷ rest → IsPlainWord value → ⊥)
     → NothingStandsFirst ((codes "--" ++ name) ∷ words)
 no_apart_option name words n flag apart (Raised o) rest h = flag o (sym (ap (λ (ws : List Text). bare (head_of ws)) h.spelled)) h.is_item
 no_apart_option name words n flag apart (Apart o v) rest h =

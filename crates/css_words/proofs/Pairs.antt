@@ -8,7 +8,7 @@ use Rattle.css_words.specs.declared.built.Built.{Built}
 use Rattle.css_words.specs.declared.command.Command.{Command}
 use Rattle.css_words.specs.Options.{Text, kind_of}
 use Rattle.css_words.specs.Items.{Given}
-use Rattle.css_words.specs.Parts.{pair_of, pairs}
+use Rattle.css_words.specs.KeptWords.{pair_of, pairs}
 use Rattle.css_words.specs.Reading.{value_of, is_option, AreOnce, IsAllowed, IsOptionOf, IsOperandOf, IsValue, Wants}
 
 -- what holds of all pairs, and of all that the code keeps

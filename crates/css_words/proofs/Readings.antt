@@ -12,7 +12,7 @@ use Rattle.css_words.specs.declared.table.OptionKind.TheVariants.{Number}
 use Rattle.css_words.specs.declared.request.Request.{Request}
 use Rattle.css_words.specs.Options.{Text, command_name, kind_of}
 use Rattle.css_words.specs.Items.{Given, Says}
-use Rattle.css_words.specs.Parts.{SayNothing}
+use Rattle.css_words.specs.KeptWords.{SayNothing}
 use Rattle.css_words.specs.Reading.{Reads, AreRefused, HasBounds, IsAllowed, IsNumber, most_of, IsOperandOf, IsValue, is_option, value_of, number_in, number_of, program_number, request_of}
 use Rattle.css_words.proofs.Names.{same_command, is_option-Decides}
 use Rattle.css_words.proofs.Saying.{one_saying}

@@ -5,7 +5,7 @@ use Rattle.std.proofs.lemmas.List.{append_assoc, append-nil}
 use Rattle.std.proofs.lemmas.List.Elements.{recursion_from_All}
 use Rattle.css_words.specs.Options.{Text}
 use Rattle.css_words.specs.Items.{Item, Raised, Apart, Joined, Operand, IsItem, Given, Says, spelling, given_by, operand_by, tail_of, behind_of}
-use Rattle.css_words.specs.Parts.{NothingStandsFirst, SayNothing}
+use Rattle.css_words.specs.KeptWords.{NothingStandsFirst, SayNothing}
 use Rattle.css_words.proofs.Items.{one_item, dashes_alone}
 
 no_words : (i : Item) (ps : List Text) → spelling i ++ ps ≡ [] → ⊥

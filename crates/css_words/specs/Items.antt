@@ -24,17 +24,17 @@ is_flag Flag = true
 is_flag _ = false
 
 -- The word doesn't begin with `-`.
-abbrev pub IsPlain : Text → Type 0
-IsPlain [] = Unit {0}
-IsPlain (b ∷ bs) = b ≢ 45
+abbrev pub IsPlainWord : Text → Type 0
+IsPlainWord [] = Unit {0}
+IsPlainWord (b ∷ bs) = b ≢ 45
 
 -- A flag has no value, and any other option has one; a value in the next word doesn't begin with `-`; and of the words
 -- that begin with `-`, only `-` alone is no option.
 abbrev pub IsItem : Item → Type 0
 IsItem (Raised option) = is_flag (kind_of option) ≡ true
-IsItem (Apart option value) = (is_flag (kind_of option) ≡ false) × IsPlain value
+IsItem (Apart option value) = (is_flag (kind_of option) ≡ false) × IsPlainWord value
 IsItem (Joined option value) = is_flag (kind_of option) ≡ false
-IsItem (Operand word) = (word ≡ codes "-") ⊎ IsPlain word
+IsItem (Operand word) = (word ≡ codes "-") ⊎ IsPlainWord word
 
 -- an option, and the value that it is given; a flag's is empty
 abbrev pub Given : Type 0

@@ -2,7 +2,7 @@
 ghost use Rattle.std.specs.Prelude.{◌≡◌, ◌↔◌, IsTrue, IsSome, IfOk, All, Contains, option_map};
 ghost use Rattle.css_words.specs.declared.options.OptionName.{OptionName};
 ghost use Rattle.css_words.specs.Options.{commands_of, kind_of};
-ghost use Rattle.css_words.specs.Parts.{pairs};
+ghost use Rattle.css_words.specs.KeptWords.{pairs};
 ghost use Rattle.css_words.specs.Reading.{AreOnce, IsAllowed, IsOperandOf, IsOptionOf, IsValue, Wants, is_option, value_of};
 
 use crate::built::Built;

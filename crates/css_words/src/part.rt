@@ -2,8 +2,8 @@
 ghost use Rattle.std.specs.Prelude.{◌≡◌, ◌≤◌, ◌↔◌, ◌⊎◌, ◌∷◌, ◌++◌, true, false, IsTrue, IfSome, IsNone, List, MatchOption, length, codes};
 ghost use Rattle.css_words.specs.declared.options.OptionName.{OptionName};
 ghost use Rattle.css_words.specs.Options.{Text, kind_of, option_name};
-ghost use Rattle.css_words.specs.Items.{IsPlain, is_flag};
-ghost use Rattle.css_words.specs.Parts.{NothingStandsFirst, StandsFirst, texts};
+ghost use Rattle.css_words.specs.Items.{IsPlainWord, is_flag};
+ghost use Rattle.css_words.specs.KeptWords.{NothingStandsFirst, StandsFirst, texts};
 
 use crate::options::{OptionName, option_named};
 use crate::table::{OptionKind, row};
@@ -26,14 +26,14 @@ pub(crate) enum Part<'a> {
 
 /// Whether a word doesn't begin with `-`.
 fn is_plain(word: &str) -> bool
-    ensures { IsTrue result ↔ IsPlain word.now }
+    ensures { IsTrue result ↔ IsPlainWord word.now }
 {
     !word.starts_with('-')
 }
 
 /// Whether a word is no option: `-` alone, or one that doesn't begin with `-`.
 fn is_operand(word: &str) -> bool
-    ensures { IsTrue result ↔ ((word.now ≡ codes "-") ⊎ IsPlain word.now) }
+    ensures { IsTrue result ↔ ((word.now ≡ codes "-") ⊎ IsPlainWord word.now) }
 {
     word == "-" || is_plain(word)
 }
@@ -71,7 +71,7 @@ fn joined<'a>(name: &str, value: &'a str, others: &'a [String]) -> Option<(Part<
 fn apart<'a>(name: &str, others: &'a [String]) -> Option<(Part<'a>, &'a [String])>
     ensures flag { IsNone result → (option : OptionName) → option_name option ≡ name.now → is_flag (kind_of option) ≡ true → ⊥ }
     ensures valued { IsNone result → (option : OptionName) (value : Text) (rest : List Text)
-        → option_name option ≡ name.now → is_flag (kind_of option) ≡ false → texts others.entry.now ≡ value ∷ rest → IsPlain value → ⊥ }
+        → option_name option ≡ name.now → is_flag (kind_of option) ≡ false → texts others.entry.now ≡ value ∷ rest → IsPlainWord value → ⊥ }
     ensures found { IfSome result (λ found. StandsFirst
         ((codes "--" ++ name.now) ∷ texts others.entry.now) found.0 (texts found.1.now)) }
     ensures shorter { IfSome result (λ found. length found.1.now ≤ length others.entry.now) }

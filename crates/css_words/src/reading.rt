@@ -1,7 +1,7 @@
 //! From words to a request.
 ghost use Rattle.std.specs.Prelude.{◌≡◌, ◌≢◌, ◌≤◌, ◌∷◌, [], All, IfOk, IsErrOf, List, MatchOption, map};
 ghost use Rattle.css_words.specs.Options.{Text, kind_of};
-ghost use Rattle.css_words.specs.Parts.{pairs, texts};
+ghost use Rattle.css_words.specs.KeptWords.{pairs, texts};
 ghost use Rattle.css_words.specs.Reading.{AreRefused, HasBounds, IsOperandOf, IsValue, Reads, file_of, is_given, limits_of, most_of, name_of, number_of, program_number, request_of};
 
 use crate::allowed::{is_allowed, value_of};

@@ -1,7 +1,7 @@
 //! What words say, part by part.
 ghost use Rattle.std.specs.Prelude.{◌≡◌, ◌++◌, IfOk, IsErrOf, map};
 ghost use Rattle.css_words.specs.Items.{Says};
-ghost use Rattle.css_words.specs.Parts.{SayNothing, given_in, operand_in, pairs, texts};
+ghost use Rattle.css_words.specs.KeptWords.{SayNothing, given_in, operand_in, pairs, texts};
 
 use crate::fault::WordsFault;
 use crate::part::{Given, Part, first_part};

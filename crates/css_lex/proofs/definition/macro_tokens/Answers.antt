@@ -4,7 +4,7 @@ use Rattle.std.proofs.lemmas.List.{map_push}
 use Rattle.std.proofs.lemmas.List.Elements.{All-tail}
 use Rattle.css_base.specs.declared.token.Token.{Token}
 use Rattle.css_base.specs.Tokens.{lexeme, lexemes}
-use Rattle.css_macros.specs.Macros.{IsPlain}
+use Rattle.css_macros.specs.Macros.{IsNoDirective}
 use Rattle.css_macros.specs.MacroTokens.{plain_kind, plain_kinds}
 use Rattle.css_lex.specs.HashLines.{kind_at}
 use Rattle.css_lex.proofs.definition.macro_tokens.Goals as goal
@@ -14,10 +14,10 @@ loop-word-preserved c =
     let word = lexeme c.in-Some.word in
     let rest = lexemes (into_iter_items c.next.new.self) in
     let h = c.loop-word.invariant in
-    let all : All (λ w. IsPlain (kind_at w)) (word ∷ rest) =
-    subst (λ (items : List Token). All (λ w. IsPlain (kind_at w)) (lexemes items)) c.in-Some.ensures.items h.plain in
+    let all : All (λ w. IsNoDirective (kind_at w)) (word ∷ rest) =
+    subst (λ (items : List Token). All (λ w. IsNoDirective (kind_at w)) (lexemes items)) c.in-Some.ensures.items h.plain in
     record {
-      plain = All-tail (λ w. IsPlain (kind_at w)) word rest all;
+      plain = All-tail (λ w. IsNoDirective (kind_at w)) word rest all;
       same =
           h.same
           ∙ (ap (λ (items : List Token). plain_kinds c.loop-word.tokens.items ++ map kind_at (lexemes items)) c.in-Some.ensures.items

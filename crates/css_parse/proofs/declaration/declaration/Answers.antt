@@ -1,6 +1,6 @@
 use Rattle.std.proofs.Common.{◌<◌, ap, arith}
 use Rattle.css_base.specs.Tokens.{lexemes}
-use Rattle.css_tree.specs.Parts.{first_line}
+use Rattle.css_tree.specs.TokenParts.{first_line}
 use Rattle.css_parse.proofs.Initials.{front_of, none_of}
 use Rattle.css_parse.proofs.Exits.{passed}
 use Rattle.css_parse.proofs.NoDeclaration.{specifiers_some, no_declaration, no_declaration_end}

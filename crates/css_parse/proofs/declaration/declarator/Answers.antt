@@ -1,7 +1,7 @@
 use Rattle.std.proofs.Common.{ap}
 use Rattle.std.proofs.lemmas.Result.{IfOk-weaker}
 use Rattle.css_base.specs.Tokens.{lexemes}
-use Rattle.css_tree.specs.Parts.{first_line}
+use Rattle.css_tree.specs.TokenParts.{first_line}
 use Rattle.css_parse.proofs.Exits.{passed}
 use Rattle.css_parse.proofs.Initials.{front_of, none_of}
 use Rattle.css_parse.proofs.NoDeclaration.{declarator_some, no_declarator}

@@ -2,7 +2,7 @@ use Rattle.std.proofs.Common.{◌≡◌, ℕ, ◌≤◌, [], ◌∷◌, ◌++◌
 use Rattle.std.proofs.lemmas.Bool.{false≢true}
 use Rattle.css_base.specs.Tokens.{lexeme, lexemes}
 use Rattle.css_tree.specs.Syntax.{NoParts, MoreParts}
-use Rattle.css_tree.specs.Parts.{first_line}
+use Rattle.css_tree.specs.TokenParts.{first_line}
 use Rattle.css_tree.specs.Shapes.{expression, initialiser, listed_parts}
 use Rattle.css_tree.specs.Heights.{height_of_initialiser}
 use Rattle.css_parse.specs.Readings as reads

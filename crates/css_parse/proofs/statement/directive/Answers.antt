@@ -1,6 +1,6 @@
 use Rattle.std.proofs.Common.{◌≡◌, sym, ap, ◌∙◌}
 use Rattle.css_base.specs.Tokens.{Directive, kind_of, lexeme, lexemes}
-use Rattle.css_tree.specs.Parts.{first_line}
+use Rattle.css_tree.specs.TokenParts.{first_line}
 use Rattle.css_tree.specs.Shapes.{in_row}
 use Rattle.css_parse.proofs.DirectiveWords.{kind-Directive}
 use Rattle.css_parse.proofs.statement.directive.Goals as goal

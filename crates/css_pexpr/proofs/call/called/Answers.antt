@@ -7,7 +7,7 @@ use Rattle.css_pexpr.specs.Arguments.{in_order}
 use Rattle.css_pexpr.specs.Frames.{call_of, called}
 use Rattle.css_pexpr.specs.Shapes.{node, arguments}
 use Rattle.css_pexpr.proofs.Caps.{capped_low}
-use Rattle.css_pexpr.proofs.Rows.{expression-Call}
+use Rattle.css_pexpr.proofs.ArgumentLists.{expression-Call}
 use Rattle.css_pexpr.proofs.call.called.Goals as goal
 
 pub invariant_of-result : goal.invariant_of-result

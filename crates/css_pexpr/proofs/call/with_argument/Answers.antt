@@ -3,7 +3,7 @@ use Rattle.std.proofs.lemmas.List.{map-append}
 use Rattle.css_tree.specs.Heights.{height, height_of_arguments}
 use Rattle.css_tree.specs.Shapes.{expression}
 use Rattle.css_pexpr.specs.Arguments.{in_order}
-use Rattle.css_pexpr.proofs.Rows.{height-last}
+use Rattle.css_pexpr.proofs.ArgumentLists.{height-last}
 use Rattle.css_pexpr.proofs.call.with_argument.Goals as goal
 
 pub invariant_of-result : goal.invariant_of-result

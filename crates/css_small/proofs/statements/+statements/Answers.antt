@@ -1,7 +1,7 @@
 use Rattle.std.proofs.Common.{◌+◌, Some, drop, sym, ap, ◌∙◌}
 use Rattle.std.specs.Option.{option_map}
 use Rattle.css_tree.specs.Shapes as shapes
-use Rattle.css_tree.proofs.Rows as rows
+use Rattle.css_tree.proofs.ChildLists as rows
 use Rattle.css_small.specs.Tree.{Block}
 use Rattle.css_small.specs.Trees.{statement_of, statements_of}
 use Rattle.css_small.proofs.Exits.{passed}

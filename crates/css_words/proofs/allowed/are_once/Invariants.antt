@@ -1,5 +1,5 @@
 use Rattle.std.proofs.Common.{◌↔◌, drop}
-use Rattle.css_words.specs.Parts.{pairs}
+use Rattle.css_words.specs.KeptWords.{pairs}
 use Rattle.css_words.specs.Reading.{AreOnce}
 use Rattle.css_words.proofs.allowed.are_once.Given as goal
 

@@ -2,7 +2,7 @@ use Rattle.std.proofs.Common.{◌≡◌, ℕ, All, take, refl, subst, arith, IsS
 use Rattle.std.proofs.lemmas.List.Elements.{All-more}
 use Rattle.css_words.specs.declared.options.OptionName.{OptionName}
 use Rattle.css_words.specs.declared.options.OptionName.TheVariants.{Memory}
-use Rattle.css_words.specs.Parts.{pairs}
+use Rattle.css_words.specs.KeptWords.{pairs}
 use Rattle.css_words.specs.Reading.{Wants, value_of}
 use Rattle.css_words.proofs.Names.{all_options, each_option}
 use Rattle.css_words.proofs.allowed.has_wanted.Goals as goal

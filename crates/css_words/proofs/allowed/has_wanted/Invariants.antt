@@ -1,6 +1,6 @@
 use Rattle.std.proofs.Common.{take}
 use Rattle.std.specs.Prelude.{All, IsSome}
-use Rattle.css_words.specs.Parts.{pairs}
+use Rattle.css_words.specs.KeptWords.{pairs}
 use Rattle.css_words.specs.Reading.{Wants, value_of}
 use Rattle.css_words.proofs.allowed.has_wanted.Given as goal
 

@@ -1,4 +1,4 @@
-use Rattle.css_words.specs.Parts.{pairs}
+use Rattle.css_words.specs.KeptWords.{pairs}
 use Rattle.css_words.proofs.Pairs.{allowed_by_values}
 use Rattle.css_words.proofs.allowed.is_allowed.Goals as goal
 

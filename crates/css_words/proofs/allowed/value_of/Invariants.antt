@@ -1,5 +1,5 @@
 use Rattle.std.proofs.Common.{◌≡◌, drop}
-use Rattle.css_words.specs.Parts.{pairs}
+use Rattle.css_words.specs.KeptWords.{pairs}
 use Rattle.css_words.specs.Reading.{value_of}
 use Rattle.css_words.proofs.allowed.value_of.Given as goal
 

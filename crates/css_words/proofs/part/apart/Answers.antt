@@ -1,7 +1,7 @@
 use Rattle.std.proofs.Common.{◌∙◌, ◌∷◌, refl, sym, ap}
 use Rattle.css_words.specs.Options.{Text}
-use Rattle.css_words.specs.Parts.{texts}
-use Rattle.css_words.proofs.Parts.{found_flag, found_apart}
+use Rattle.css_words.specs.KeptWords.{texts}
+use Rattle.css_words.proofs.FirstItems.{found_flag, found_apart}
 use Rattle.css_words.proofs.part.apart.Goals as goal
 
 pub returns-then-is_flag-clause-found : goal.returns-then-is_flag-clause-found

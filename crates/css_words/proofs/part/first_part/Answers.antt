@@ -1,9 +1,9 @@
 use Rattle.std.proofs.Common.{◌∙◌, ◌++◌, Some, codes, refl, ap, lit<}
 use Rattle.std.proofs.lemmas.Str.Pattern.{split_parts}
 use Rattle.css_words.specs.Options.{Text}
-use Rattle.css_words.specs.Parts.{texts}
+use Rattle.css_words.specs.KeptWords.{texts}
 use Rattle.css_words.proofs.Items.{no_equals_by_place}
-use Rattle.css_words.proofs.Parts.{found_operand, behind_dashes, by_joined, by_apart}
+use Rattle.css_words.proofs.FirstItems.{found_operand, behind_dashes, by_joined, by_apart}
 use Rattle.css_words.proofs.part.first_part.Goals as goal
 
 pub returns-then-is_operand-clause-found : goal.returns-then-is_operand-clause-found

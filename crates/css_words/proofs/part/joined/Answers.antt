@@ -1,6 +1,6 @@
 use Rattle.std.proofs.Common.{◌∙◌, refl, sym}
-use Rattle.css_words.specs.Parts.{texts}
-use Rattle.css_words.proofs.Parts.{found_joined}
+use Rattle.css_words.specs.KeptWords.{texts}
+use Rattle.css_words.proofs.FirstItems.{found_joined}
 use Rattle.css_words.proofs.part.joined.Goals as goal
 
 pub returns-clause-found : goal.returns-clause-found

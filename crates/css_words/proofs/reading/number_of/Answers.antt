@@ -1,5 +1,5 @@
 use Rattle.std.proofs.Common.{◌∙◌, sym, subst, ◌≤◌, ℕ}
-use Rattle.css_words.specs.Parts.{pairs}
+use Rattle.css_words.specs.KeptWords.{pairs}
 use Rattle.css_words.specs.Options.{kind_of}
 use Rattle.css_words.specs.Reading.{most_of}
 use Rattle.css_words.proofs.Readings.{number_there, number_bound, number_fits}

@@ -1,6 +1,6 @@
 use Rattle.std.proofs.Common.{◌≡◌, ◌∙◌, Result, Ok, Err, IsErrAnd, ap, sym, subst, map, true≢false}
 use Rattle.std.specs.Prelude.{IsErrOf}
-use Rattle.css_words.specs.Parts.{pairs, texts}
+use Rattle.css_words.specs.KeptWords.{pairs, texts}
 use Rattle.css_words.specs.Reading.{HasBounds}
 use Rattle.css_words.proofs.Readings.{nothing_said, no_one_operand, not_allowed, bounds_of}
 use Rattle.css_words.proofs.reading.read_words.Goals as goal

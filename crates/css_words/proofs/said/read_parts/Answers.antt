@@ -4,7 +4,7 @@ use Rattle.std.proofs.lemmas.Slice.Eq.{bytes_eq-Decides}
 use Rattle.std.proofs.lemmas.List.Elements.{All-push}
 use Rattle.css_words.specs.Options.{Text}
 use Rattle.css_words.specs.Items.{Given, IsItem, spelling, given_by, operand_by}
-use Rattle.css_words.specs.Parts.{texts, given_in, operand_in}
+use Rattle.css_words.specs.KeptWords.{texts, given_in, operand_in}
 use Rattle.css_words.proofs.Saying.{blocked, more_items, flat_map_push}
 use Rattle.css_words.proofs.said.read_parts.Goals as goal
 

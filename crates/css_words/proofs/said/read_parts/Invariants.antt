@@ -1,7 +1,7 @@
 use Rattle.std.proofs.Common.{◌≡◌, ◌++◌, List, map, length}
 use Rattle.std.specs.Prelude.{All, flat_map}
 use Rattle.css_words.specs.Items.{Item, IsItem, spelling, given_by, operand_by}
-use Rattle.css_words.specs.Parts.{pairs, texts}
+use Rattle.css_words.specs.KeptWords.{pairs, texts}
 use Rattle.css_words.proofs.said.read_parts.Given as goal
 
 -- the words are some items and what is left, and those items are kept

@@ -1,7 +1,7 @@
 use Rattle.std.proofs.Common.{◌≡◌, ◌∙◌, sym, ap, ap₂, subst, refl, length, map, All, Option, Some}
 use Rattle.css_lex.specs.declared.breach.Breach.{Breach}
 use Rattle.css_lexemes.specs.LineKinds.{line_kind}
-use Rattle.css_macros.specs.Macros.{IsPlain, may_define}
+use Rattle.css_macros.specs.Macros.{IsNoDirective, may_define}
 use Rattle.css_macros.specs.MacroTables.{table_of}
 use Rattle.css_macros.specs.MacroTokens.{plain_kinds}
 use Rattle.css_lex.specs.Refusals.{line_breaches}
@@ -54,7 +54,7 @@ macro_tokens-requires c =
     let text = c.args.numbered.now.text.now in
     let line = c.args.line.now in
     let words = c.in_ok-words.ensures in
-    subst (All (λ w. IsPlain (kind_at w))) (sym (c.in-Some.ensures.1 ∙ ap behind_name words.tokens)) (plain_behind text (define_pieces line.source.now))
+    subst (All (λ w. IsNoDirective (kind_at w))) (sym (c.in-Some.ensures.1 ∙ ap behind_name words.tokens)) (plain_behind text (define_pieces line.source.now))
 
 pub returns-then-not-may_define-clause-broken : goal.returns-then-not-may_define-clause-broken
 returns-then-not-may_define-clause-broken c b is =

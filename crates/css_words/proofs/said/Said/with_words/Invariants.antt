@@ -1,5 +1,5 @@
 use Rattle.std.proofs.Common.{◌≡◌, ◌++◌, map, take}
-use Rattle.css_words.specs.Parts.{pairs, texts}
+use Rattle.css_words.specs.KeptWords.{pairs, texts}
 use Rattle.css_words.proofs.said.Said.with_words.Given as goal
 
 -- the options stay, and the words so far stand behind those that were there

@@ -4,8 +4,8 @@ use Rattle.std.specs.Str.Pattern.{FindsTextPrefix}
 use Rattle.css_words.specs.declared.options.OptionName.{OptionName}
 use Rattle.css_words.specs.declared.part.Part.{Part}
 use Rattle.css_words.specs.Options.{Text, option_name, kind_of}
-use Rattle.css_words.specs.Items.{Raised, Apart, Joined, Operand, IsPlain, is_flag}
-use Rattle.css_words.specs.Parts.{StandsFirst, NothingStandsFirst, given_in, operand_in}
+use Rattle.css_words.specs.Items.{Raised, Apart, Joined, Operand, IsPlainWord, is_flag}
+use Rattle.css_words.specs.KeptWords.{StandsFirst, NothingStandsFirst, given_in, operand_in}
 use Rattle.css_words.proofs.Names.{NoEquals}
 use Rattle.css_words.proofs.Items.{no_joined_option, no_apart_option}
 
@@ -30,7 +30,7 @@ found_flag o name words part e k g p = record {
 }
 
 pub found_apart : (o : OptionName) (name value : Text) (words rest : List Text) (part : Part) → option_name o ≡ name → is_flag (kind_of o) ≡ false
-    → IsPlain value → words ≡ value ∷ rest → given_in part ≡ (o, value) ∷ [] → operand_in part ≡ []
+    → IsPlainWord value → words ≡ value ∷ rest → given_in part ≡ (o, value) ∷ [] → operand_in part ≡ []
     → StandsFirst ((codes "--" ++ name) ∷ words) part rest
 found_apart o name value words rest part e k plain w g p = record {
   item = Apart o value;
@@ -39,7 +39,7 @@ found_apart o name value words rest part e k plain w g p = record {
   operand = p;
 }
 
-pub found_operand : (word : Text) (words : List Text) (part : Part) → (word ≡ codes "-") ⊎ IsPlain word
+pub found_operand : (word : Text) (words : List Text) (part : Part) → (word ≡ codes "-") ⊎ IsPlainWord word
     → given_in part ≡ [] → operand_in part ≡ word ∷ [] → StandsFirst (word ∷ words) part words
 found_operand word words part is g p = record { item = Operand word; begins = record { is_item = is; spelled = refl }; given = g; operand = p }
 
@@ -58,7 +58,7 @@ module _ {F : Type 0} (part : F → Part) (rest : F → List Text) (first : Text
 
   pub by_apart : (r : Option F) (name : Text) → first ≡ codes "--" ++ name → NoEquals name
       → (IsNone r → (o : OptionName) → option_name o ≡ name → is_flag (kind_of o) ≡ true → ⊥)
-      → (IsNone r → (o : OptionName) (value : Text) (others : List Text) → option_name o ≡ name → is_flag (kind_of o) ≡ false → words ≡ value ∷ others → IsPlain value → ⊥)
+      → (IsNone r → (o : OptionName) (value : Text) (others : List Text) → option_name o ≡ name → is_flag (kind_of o) ≡ false → words ≡ value ∷ others → IsPlainWord value → ⊥)
       → MatchOption r (Unit {0}) (λ found. StandsFirst ((codes "--" ++ name) ∷ words) (part found) (rest found))
       → MatchOption r (NothingStandsFirst (first ∷ words)) (λ found. StandsFirst (first ∷ words) (part found) (rest found))
   by_apart None name e n flag apart h = subst (λ (w : Text). NothingStandsFirst (w ∷ words)) (sym e) (no_apart_option name words n (flag refl) (apart refl))

@@ -1,7 +1,7 @@
 //! Output on its way to a sink.
 ghost use Rattle.std.specs.Prelude.{◌≡◌, ◌≤◌, [], ◌++◌, length, IfOk, OnOk, OnErr};
 ghost use Rattle.css_io.specs.Changes.{HasFailed, Got, GotPrefix, change};
-ghost use Rattle.css_main_side.specs.Pending.{Passes};
+ghost use Rattle.css_main_side.specs.OutputBuffer.{Passes};
 
 use css_base::NoMemory;
 use css_io::{Failed, Sink, write_all};
@@ -13,11 +13,11 @@ const ROOM: usize = 65_536;
 
 /// Bytes that are written but not yet in the sink, at most 65,536. Contracts see their list.
 #[derive(Drop)]
-pub struct Pending {
+pub struct OutputBuffer {
     bytes: Vec<u8>,
 }
 
-impl Model for Pending {
+impl Model for OutputBuffer {
     ghost use Rattle.std.specs.Prelude.{ℕ, List, ◌≤◌, vec_capacity, vec_len};
 
     ghost Value = { List ℕ };
@@ -27,13 +27,13 @@ impl Model for Pending {
     ghost invariant = { λ p. (vec_len p.bytes ≤ 65536) × (65536 ≤ vec_capacity p.bytes) };
 }
 
-impl Pending {
+impl OutputBuffer {
     /// Nothing pending. Takes its memory here.
-    pub fn new(alloc: Global) -> Result<Pending, NoMemory>
+    pub fn new(alloc: Global) -> Result<OutputBuffer, NoMemory>
         ensures { IfOk result (λ p. p ≡ []) }
     {
         let bytes = Vec::with_capacity(alloc, ROOM)?;
-        Ok(Pending { bytes })
+        Ok(OutputBuffer { bytes })
     }
 
     /// Writes a piece of at most 65,536 bytes, through the sink where it doesn't fit. On `Failed` the sink got a prefix of
