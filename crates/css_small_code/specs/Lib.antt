@@ -5,5 +5,5 @@ pub mod Tasks
 pub mod Correct
 pub mod Fuel
 pub mod Lines
-pub mod Rows
+pub mod WorkedPrograms
 pub mod Places

@@ -4,7 +4,7 @@ pub mod Expressions
 pub mod Heights
 pub mod Items
 pub mod Marks
-pub mod Parts
+pub mod TokenParts
 pub mod Shapes
 pub mod Statements
 pub mod Syntax

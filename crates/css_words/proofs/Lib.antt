@@ -1,7 +1,7 @@
 pub mod Names
 pub mod Items
 pub mod Saying
-pub mod Parts
+pub mod FirstItems
 pub mod Pairs
 pub mod Numbers
 pub mod Ranges

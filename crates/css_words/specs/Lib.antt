@@ -1,4 +1,4 @@
 pub mod Options
 pub mod Items
 pub mod Reading
-pub mod Parts
+pub mod KeptWords
