@@ -6,9 +6,9 @@ mod Found
 mod Holding
 pub mod Longest
 mod Others
-mod Parts
+mod TwoReadings
 mod Reached
-mod Rows
+mod ArgumentLists
 mod Runs
 mod Search
 mod Signs
