@@ -13,3 +13,4 @@ pub mod TaskPlaces
 pub mod TaskRows
 pub mod TaskOuts
 pub mod TaskKept
+pub mod WindowRanges

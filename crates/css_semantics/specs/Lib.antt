@@ -12,3 +12,4 @@ pub mod Verdict
 pub mod Alone
 pub mod TaskSpaces
 pub mod WithWindow
+pub mod WindowRanges

@@ -4,7 +4,7 @@
 
 mod laws;
 
-pub use laws::{pending_share_no_byte, units_are_within};
+pub use laws::{pending_share_no_byte, units_are_within, windows_meet_by_ranges};
 
 /// The most bytes of main's stack, where pragmas are erased.
 pub const STACK_LIMIT: u32 = 1_064_960;
