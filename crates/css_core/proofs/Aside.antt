@@ -11,7 +11,7 @@ use Rattle.css_core.specs.Quiet.{is_quiet, AreQuiet}
 use Rattle.css_core.specs.Plain.{plain, IsQuietTape}
 use Rattle.css_core.specs.Inside.{makes_tasks}
 use Rattle.css_core.specs.Erased.{Erases}
-use Rattle.css_core.proofs.Inside.{makes_behind_load}
+use Rattle.css_core.proofs.StaysInside.{makes_behind_load}
 use Rattle.css_core.proofs.MoreFuel.{Grows, grows_then}
 use Rattle.css_core.proofs.Kept.{Both, Making}
 

@@ -1,5 +1,5 @@
 -- Under the rules main and each task have units of their own.
-use Rattle.std.proofs.Common.{◌≡◌, ℕ, ◌+◌, ◌-◌, ◌≤◌, Bool, true, false, if◌then◌else◌, Option, Some, None, is_none, [], ◌∷◌, refl, sym, ap, ◌∙◌, subst, arith}
+use Rattle.std.proofs.Common.{◌≡◌, ℕ, ◌+◌, ◌-◌, ◌≤◌, false, if◌then◌else◌, Option, Some, None, is_none, ◌∷◌, refl, sym, ap, ◌∙◌, subst, arith}
 use Rattle.std.proofs.lemmas.Bool.{leb-false}
 use Rattle.css_base.specs.declared.limits.Limits.{Limits}
 use Rattle.css_base.specs.declared.rule.Rule.{Rule}
@@ -12,7 +12,7 @@ use Rattle.css_semantics.specs.Verdict.{judged_in}
 use Rattle.css_semantics.proofs.Checks.{are_kept}
 use Rattle.css_core.specs.Inside.{is_of_calls}
 use Rattle.css_core.specs.Meters.{SpendsApart}
-use Rattle.css_core.proofs.Inside.{outside_none, inside_some}
+use Rattle.css_core.proofs.StaysInside.{outside_none, inside_some}
 
 -- ---- what the rules allow
 

@@ -1,6 +1,6 @@
 -- What leaves it as it is whether a task runs, and whether calls make tasks.
-use Rattle.std.proofs.Common.{◌≡◌, ℕ, Bool, true, false, not, ◌&&◌, Option, Some, None, is_none, option_map, [], ◌∷◌, refl, ap}
-use Rattle.css_semantics.specs.Dialogue.{Action, Enter, Load, Calls, Returns, Wait, Item, item, item_in, Mode, Tape}
+use Rattle.std.proofs.Common.{◌≡◌, ℕ, Bool, true, false, not, ◌&&◌, Option, Some, None, is_none, option_map, ◌∷◌, refl, ap}
+use Rattle.css_semantics.specs.Dialogue.{Action, Load, Calls, Returns, Wait, Item, item, item_in, Mode, Tape}
 use Rattle.css_semantics.specs.Tasks.{Body, body_after, is_started, body}
 use Rattle.css_core.specs.Inside.{is_of_calls, is_inside, makes_tasks}
 
