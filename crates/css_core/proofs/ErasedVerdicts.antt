@@ -1,41 +1,35 @@
 -- A verdict is that of the program without tasks, and its images are of that program's memory.
-use Rattle.std.proofs.Common.{◌≡◌, inl, inr, ℕ, ◌≤◌, ◌==◌, ℤ, Bool, true, false, Option, Some, None, All, cond, List, [], ◌∷◌, ◌++◌, refl, sym, ap, ◌∙◌, subst, append_assoc, ⊎_elim, arith}
+use Rattle.std.proofs.Common.{◌≡◌, inl, inr, ℕ, ◌≤◌, ◌==◌, ℤ, Bool, true, false, Option, Some, None, All, cond, if◌then◌else◌, List, [], ◌∷◌, ◌++◌, refl, sym, ap, ◌∙◌, subst, append_assoc, ⊎_elim, arith}
 use Rattle.std.specs.Prelude.{find}
 use Rattle.std.proofs.lemmas.Bool.{cases_lt, eqb-true}
-use Rattle.std.proofs.lemmas.List.{append-nil}
 use Rattle.std.proofs.lemmas.List.Elements.{All-append, All-from_recursion}
 use Rattle.std.proofs.lemmas.Option.{same_Some}
 use Rattle.css_base.specs.declared.limits.Limits.{Limits}
 use Rattle.css_base.specs.declared.ending.Stop.TheVariants as stops
-use Rattle.css_semantics.specs.Dialogue.{Stopped, Tired}
-use Rattle.css_semantics.specs.Memory.{Memory}
+use Rattle.css_semantics.specs.Dialogue.{Stopped, Tired, Tape, Outcome, Goes, Stops, tape_of, output}
+use Rattle.css_semantics.specs.Actions.{Directive, Starting, Finishing, AtBarrier, WaitingOn, NoDirective, directive_of}
+use Rattle.css_semantics.specs.Memory.{Memory, image, memory_after}
+use Rattle.css_semantics.specs.Flat.{FlatState, flat}
+use Rattle.css_semantics.specs.Tasks.{is_started}
 use Rattle.css_semantics.specs.Pending.{Object, pending}
-use Rattle.css_semantics.specs.Verdict.{ImageKind, OfBarrier, OfFinish, OfWait, Image, bytes_of_window, Verdict}
+use Rattle.css_semantics.specs.Verdict.{ImageKind, OfBarrier, OfFinish, OfWait, Image, bytes_of_window, images_at, images_by, images, Verdict, verdict, judged_in}
+use Rattle.css_semantics.proofs.Tapes.{output-append}
 use Rattle.css_core.specs.Core.{Program}
-use Rattle.css_core.specs.Dialogue.{Tape, Outcome, Goes, Stops, tape_of, written_by, output}
-use Rattle.css_core.specs.Actions.{Directive, Starting, Finishing, AtBarrier, WaitingOn, NoDirective, directive_of}
-use Rattle.css_core.specs.Tasks.{is_started}
 use Rattle.css_core.specs.Functions.{source}
 use Rattle.css_core.specs.Fuel.{Extends}
-use Rattle.css_core.specs.Worlds.{FlatState, flat_at, flat}
-use Rattle.css_core.specs.Judged.{known_tape, hit, judged_in, whole_image, images_at, images, verdict}
 use Rattle.css_core.specs.Without.{without_tasks, IsQuietProgram}
 use Rattle.css_core.specs.Plain.{plain, IsQuietTape, entries}
 use Rattle.css_core.specs.Erased.{IsPassed, IsErased, Answers, IsImageOf, IsSeen}
 use Rattle.css_core.proofs.MoreFuel.{Grows, extends_source}
 use Rattle.css_core.proofs.Plain.{plain_append, same_state, same_output}
 use Rattle.css_core.proofs.Erasing.{erased_source, quiet_source}
-use Rattle.css_core.proofs.Judging.{erases}
+use Rattle.css_core.proofs.Judging.{rules_refuse_aside, erases}
 
 -- what extends an outcome has its tape behind it
 grown : {A : Type 0} (o more : Outcome A) → Extends o more → Grows (tape_of o) more
 grown (Goes a t) more h = ([], ap tape_of h)
 grown (Stops (Stopped stop line) t) more h = ([], ap tape_of h)
 grown (Stops Tired t) more h = h
-
-output-append : (newer tape : Tape) → output (newer ++ tape) ≡ output tape ++ output newer
-output-append [] tape = sym (append-nil (output tape))
-output-append (i ∷ newer) tape = ap (λ bytes. bytes ++ written_by i.action) (output-append newer tape) ∙ append_assoc (output tape) (output newer) (written_by i.action)
 
 -- ---- the verdict
 
@@ -47,7 +41,7 @@ front tape quiet q more grows extends =
     let is = last.1 ∙ ap (λ t. last.0 ++ t) grows.1 ∙ sym (append_assoc last.0 grows.0 (plain tape)) in
     (output newer, ap output is ∙ output-append newer (plain tape) ∙ ap (λ bytes. bytes ++ output newer) (same_output tape quiet))
 
-answers : (start : FlatState) (o q more : Outcome ℤ) (v : Verdict) → IsQuietTape (tape_of o) → IsErased o q → Extends q more → verdict start o ≡ Some v → Answers v.ending v.output more
+answers : (start : Memory) (o q more : Outcome ℤ) (v : Verdict) → IsQuietTape (tape_of o) → IsErased o q → Extends q more → verdict start o ≡ Some v → Answers v.ending v.output more
 answers start (Goes value tape) q more v quiet is extends e =
     subst (λ (x : Verdict). Answers x.ending x.output more) (same_Some _ v e) (plain tape, subst (λ x. Extends x more) is extends, same_output tape quiet)
 answers start (Stops (Stopped (stops.Fault kind) line) tape) q more v quiet is extends e =
@@ -92,41 +86,44 @@ find_passes {X} test (y ∷ xs) x h = by (test y) refl h (find_passes test xs x)
     by true e h later = let same : y ≡ x = cc in subst (λ z. test z ≡ true) same e
     by false e h later = later h
 
-module _ (start : FlatState) (erased : Tape) where
-  abbrev memory_at : Tape → Memory
-  memory_at tape = (flat_at start tape).memory
+-- behind a plain tape the memory is the same
+same_memory : (start : Memory) (tape : Tape) → IsQuietTape tape → memory_after start (plain tape) ≡ memory_after start tape
+same_memory start tape quiet = ap (λ (s : FlatState). s.memory) (same_state (record { memory = start; input = [] }) tape quiet)
 
+module _ (start : Memory) (erased : Tape) where
   none_seen : All (IsSeen start erased) []
   none_seen = All-from_recursion (IsSeen start erased) [] tt
 
-  seen : (i : Image) (tape : Tape) → IsQuietTape tape → IsPassed tape erased → IsImageOf (memory_at tape) i → All (IsSeen start erased) (i ∷ [])
-  seen i tape quiet h is = All-from_recursion (IsSeen start erased) (i ∷ []) ((h.0, plain tape, h.1, subst (λ (s : FlatState). IsImageOf s.memory i) (sym (same_state start tape quiet)) is), tt)
+  seen : (i : Image) (tape : Tape) → IsQuietTape tape → IsPassed tape erased → IsImageOf (memory_after start tape) i → All (IsSeen start erased) (i ∷ [])
+  seen i tape quiet h is =
+      All-from_recursion (IsSeen start erased) (i ∷ []) ((h.0, plain tape, h.1, subst (λ (m : Memory). IsImageOf m i) (sym (same_memory start tape quiet)) is), tt)
 
-  whole_seen : (b : Bool) (kind : ImageKind) (line : ℕ) (tape : Tape) → IsQuietTape tape → IsPassed tape erased → All (IsSeen start erased) (whole_image (memory_at tape) b kind line)
+  whole_seen : (b : Bool) (kind : ImageKind) (line : ℕ) (tape : Tape) → IsQuietTape tape → IsPassed tape erased
+      → All (IsSeen start erased) (if b then record { kind = kind; line = line; address = 0; bytes = image (memory_after start tape) } ∷ [] else [])
   whole_seen true kind line tape quiet h = seen _ tape quiet h (inl (refl, refl))
   whole_seen false kind line tape quiet h = none_seen
 
   wait_seen : (o : Option Object) (line address : ℕ) (tape : Tape) → IsQuietTape tape → IsPassed tape erased → ((x : Object) → o ≡ Some x → x.window.base ≡ address) → All (IsSeen start erased) (elim o [
     | None ↦ []
-    | Some o ↦ record { kind = OfWait; line = line; address = address; bytes = bytes_of_window (memory_at tape) o.window } ∷ []
+    | Some o ↦ record { kind = OfWait; line = line; address = address; bytes = bytes_of_window (memory_after start tape) o.window } ∷ []
   ])
   wait_seen None line address tape quiet h base = none_seen
   wait_seen (Some o) line address tape quiet h base = seen _ tape quiet h (inr (o.window, base o refl, refl))
 
-  seen_at : (d : Directive) (line : ℕ) (tape : Tape) → IsQuietTape tape → IsPassed tape erased → All (IsSeen start erased) (images_at (memory_at tape) tape d line)
+  seen_at : (d : Directive) (line : ℕ) (tape : Tape) → IsQuietTape tape → IsPassed tape erased → All (IsSeen start erased) (images_at start tape d line)
   seen_at Starting line tape quiet h = none_seen
   seen_at Finishing line tape quiet h = whole_seen (is_started tape) OfFinish line tape quiet h
   seen_at AtBarrier line tape quiet h = whole_seen (is_started tape) OfBarrier line tape quiet h
   seen_at (WaitingOn address) line tape quiet h =
-      wait_seen (find (λ (o : Object). o.window.base == address) (pending (known_tape tape))) line address tape quiet h
-      (λ x e. eqb-true x.window.base address (find_passes (λ (o : Object). o.window.base == address) (pending (known_tape tape)) x e))
+      wait_seen (find (λ (o : Object). o.window.base == address) (pending tape)) line address tape quiet h
+      (λ x e. eqb-true x.window.base address (find_passes (λ (o : Object). o.window.base == address) (pending tape) x e))
   seen_at NoDirective line tape quiet h = none_seen
 
   all_seen : (tape : Tape) → IsQuietTape tape → IsPassed tape erased → All (IsSeen start erased) (images start tape)
   all_seen [] quiet h = none_seen
   all_seen (i ∷ tape) quiet h =
       let older = passed_older (i ∷ tape) (i ∷ []) tape erased refl h in
-      All-append (IsSeen start erased) (images start tape) (images_at (memory_at tape) tape (directive_of i.action) i.line) (all_seen tape quiet.1 older) (seen_at (directive_of i.action) i.line tape quiet.1 older)
+      All-append (IsSeen start erased) (images start tape) (images_by start tape i.action i.line) (all_seen tape quiet.1 older) (seen_at (directive_of i.action) i.line tape quiet.1 older)
 
   seen_in : (o : Outcome ℤ) (v : Verdict) → verdict start o ≡ Some v → IsQuietTape (tape_of o) → IsPassed (tape_of o) erased → All (IsSeen start erased) v.images
   seen_in (Goes value tape) v e quiet h = subst (λ (x : Verdict). All (IsSeen start erased) x.images) (same_Some _ v e) (all_seen tape quiet h)
@@ -143,16 +140,16 @@ module _ (limits : Limits) (start : FlatState) (n : ℕ) (p : Program) (is_quiet
   erased_by fuel = source (flat start n) fuel (without_tasks p)
 
   pub is_erased : (fuel : ℕ) → entries (tape_of (judged_by fuel)) ≤ n → IsErased (judged_by fuel) (erased_by fuel)
-  is_erased fuel few = erased_source (judged_in limits start) (flat start n) _ (erases (hit start limits) start n) fuel p is_quiet few
+  is_erased fuel few = erased_source (judged_in limits start) (flat start n) _ (erases _ (rules_refuse_aside start.memory limits) start n) fuel p is_quiet few
 
   quiet_by : (fuel : ℕ) → entries (tape_of (judged_by fuel)) ≤ n → IsQuietTape (tape_of (judged_by fuel))
-  quiet_by fuel few = quiet_source (judged_in limits start) (flat start n) _ (erases (hit start limits) start n) fuel p is_quiet few
+  quiet_by fuel few = quiet_source (judged_in limits start) (flat start n) _ (erases _ (rules_refuse_aside start.memory limits) start n) fuel p is_quiet few
 
-  pub erased_verdict : (fuel enough : ℕ) (v : Verdict) → verdict start (judged_by fuel) ≡ Some v → entries (tape_of (judged_by fuel)) ≤ n → fuel ≤ enough → Answers v.ending v.output (erased_by enough)
+  pub erased_verdict : (fuel enough : ℕ) (v : Verdict) → verdict start.memory (judged_by fuel) ≡ Some v → entries (tape_of (judged_by fuel)) ≤ n → fuel ≤ enough → Answers v.ending v.output (erased_by enough)
   erased_verdict fuel enough v e few le =
-      answers start (judged_by fuel) (erased_by fuel) (erased_by enough) v (quiet_by fuel few) (is_erased fuel few) (extends_source (flat start n) fuel enough (without_tasks p) le) e
+      answers start.memory (judged_by fuel) (erased_by fuel) (erased_by enough) v (quiet_by fuel few) (is_erased fuel few) (extends_source (flat start n) fuel enough (without_tasks p) le) e
 
-  pub erased_verdict_by_any : (fuel other : ℕ) (v : Verdict) → verdict start (judged_by fuel) ≡ Some v → entries (tape_of (judged_by fuel)) ≤ n → ((tape : Tape) → erased_by other ≡ Stops Tired tape → ⊥) → Answers v.ending v.output (erased_by other)
+  pub erased_verdict_by_any : (fuel other : ℕ) (v : Verdict) → verdict start.memory (judged_by fuel) ≡ Some v → entries (tape_of (judged_by fuel)) ≤ n → ((tape : Tape) → erased_by other ≡ Stops Tired tape → ⊥) → Answers v.ending v.output (erased_by other)
   erased_verdict_by_any fuel other v e few ends =
       ⊎_elim
       (λ lt. subst (λ q. Answers v.ending v.output q) (settled (erased_by other) (erased_by fuel) (extends_source (flat start n) other fuel (without_tasks p) (omega (arith, lt))) ends) (erased_verdict fuel fuel v e few (omega arith)))
@@ -163,5 +160,5 @@ module _ (limits : Limits) (start : FlatState) (n : ℕ) (p : Program) (is_quiet
       passed_older (tape_of (judged_by fuel)) newer tape (tape_of (erased_by enough)) e
       (passed_more (tape_of (judged_by fuel)) (erased_by fuel) (erased_by enough) (extends_source (flat start n) fuel enough (without_tasks p) le) (passed_all (judged_by fuel) (erased_by fuel) (is_erased fuel few)))
 
-  pub erased_images : (fuel enough : ℕ) (v : Verdict) → verdict start (judged_by fuel) ≡ Some v → entries (tape_of (judged_by fuel)) ≤ n → fuel ≤ enough → All (IsSeen start (tape_of (erased_by enough))) v.images
-  erased_images fuel enough v e few le = seen_in start (tape_of (erased_by enough)) (judged_by fuel) v e (quiet_by fuel few) (passed fuel enough [] (tape_of (judged_by fuel)) refl few le)
+  pub erased_images : (fuel enough : ℕ) (v : Verdict) → verdict start.memory (judged_by fuel) ≡ Some v → entries (tape_of (judged_by fuel)) ≤ n → fuel ≤ enough → All (IsSeen start.memory (tape_of (erased_by enough))) v.images
+  erased_images fuel enough v e few le = seen_in start.memory (tape_of (erased_by enough)) (judged_by fuel) v e (quiet_by fuel few) (passed fuel enough [] (tape_of (judged_by fuel)) refl few le)

@@ -1,12 +1,14 @@
 -- Plain tapes.
 use Rattle.std.proofs.Common.{◌≡◌, ℕ, ◌+◌, ◌-◌, Bool, true, false, not, ◌||◌, if◌then◌else◌, List, [], ◌∷◌, ◌++◌, IsTrue, refl, sym, ap, ◌∙◌, arith}
 use Rattle.std.proofs.lemmas.List.{append-nil}
-use Rattle.css_core.specs.Dialogue.{Action, Enter, Load, Calls, Returns, Start, Finish, Barrier, Wait, Item, item, Tape, written_by, output}
-use Rattle.css_core.specs.Actions.{is_load, is_of_tasks}
-use Rattle.css_core.specs.Units.{with_units, unit_of, spending}
-use Rattle.css_core.specs.Tasks.{is_started}
-use Rattle.css_core.specs.Worlds.{FlatState, state_after, flat_after, flat_at}
-use Rattle.css_core.specs.Plain.{plain, IsQuietTape, entries}
+use Rattle.css_semantics.specs.Dialogue.{Action, Enter, Turn, Load, Calls, Returns, Start, Finish, Barrier, Wait, WaitFault, DimFault, Item, item, Tape, written_by, output}
+use Rattle.css_semantics.specs.Actions.{taking_of}
+use Rattle.css_semantics.specs.Units.{Metered, with_units, spending}
+use Rattle.css_semantics.specs.Tasks.{unit_of, is_started}
+use Rattle.css_semantics.specs.Flat.{FlatState, flat_after, flat_at}
+use Rattle.css_semantics.specs.Worlds.{state_after}
+use Rattle.css_core.specs.Plain.{is_load, is_of_tasks, plain, IsQuietTape, entries}
+use Rattle.css_core.proofs.FlatUnits.{units_spent}
 
 pub plain_stays : (action : Action) (line : ℕ) (tape : Tape) → is_of_tasks action ≡ false → plain (item action line ∷ tape) ≡ item action line ∷ plain tape
 plain_stays action line tape is = rw is refl
@@ -53,6 +55,8 @@ task_takes Start h = refl
 task_takes Finish h = refl
 task_takes Barrier h = refl
 task_takes (Wait address) h = refl
+task_takes WaitFault h = refl
+task_takes DimFault h = refl
 task_takes action h = cc
 
 load_keeps : (action : Action) (s : FlatState) → IsTrue (is_load action) → flat_after s action ≡ s
@@ -66,7 +70,15 @@ task_keeps Start s h = refl
 task_keeps Finish s h = refl
 task_keeps Barrier s h = refl
 task_keeps (Wait address) s h = refl
+task_keeps WaitFault s h = refl
+task_keeps DimFault s h = refl
 task_keeps action s h = cc
+
+-- units change nothing else
+state_spent : (m : Metered FlatState) (action : Action) → (spending flat_after m action).state ≡ flat_after m.state action
+state_spent m (Enter size) = refl
+state_spent m Turn = refl
+state_spent m action = refl
 
 module _ (start : FlatState) where
   state_behind : (aside tasks : Bool) (action : Action) (line : ℕ) (tape : Tape) → is_of_tasks action ≡ tasks → IsTrue (not aside || is_load action) → flat_at start (plain tape) ≡ flat_at start tape
@@ -79,17 +91,18 @@ module _ (start : FlatState) where
   same_state [] quiet = refl
   same_state (i ∷ tape) quiet = state_behind i.is_aside (is_of_tasks i.action) i.action i.line tape refl quiet.0 (same_state tape quiet.1)
 
-  -- units change nothing else
   state_only : (n : ℕ) (tape : Tape) → (state_after (spending flat_after) (with_units start n) tape).state ≡ flat_at start tape
   state_only n [] = refl
-  state_only n (i ∷ tape) = ap (λ s. flat_after s i.action) (state_only n tape)
+  state_only n (i ∷ tape) = state_spent (state_after (spending flat_after) (with_units start n) tape) i.action ∙ ap (λ s. flat_after s i.action) (state_only n tape)
 
   -- the units that are left behind a plain tape
   units_behind : (n : ℕ) (aside tasks : Bool) (action : Action) (line : ℕ) (tape : Tape) → is_of_tasks action ≡ tasks → IsTrue (not aside || is_load action) → (state_after (spending flat_after) (with_units start n) (plain tape)).units ≡ n - entries tape
       → (state_after (spending flat_after) (with_units start n) (if aside || tasks then plain tape else record { action = action; line = line; is_aside = aside } ∷ plain tape)).units ≡ n - (entries tape + unit_of action)
   units_behind n true tasks action line tape is quiet h = let none = load_takes action quiet in h ∙ omega (arith, none)
   units_behind n false true action line tape is quiet h = let none = task_takes action is in h ∙ omega (arith, none)
-  units_behind n false false action line tape is quiet h = ap (λ units. units - unit_of action) h ∙ omega arith
+  units_behind n false false action line tape is quiet h =
+      let m = state_after (spending flat_after) (with_units start n) (plain tape) in
+      units_spent (taking_of action) m.state (flat_after m.state action) m.units ∙ ap (λ units. units - unit_of action) h ∙ omega arith
 
   pub same_units : (n : ℕ) (tape : Tape) → IsQuietTape tape → (state_after (spending flat_after) (with_units start n) (plain tape)).units ≡ n - entries tape
   same_units n [] quiet = omega arith
@@ -111,6 +124,8 @@ task_writes Start h = refl
 task_writes Finish h = refl
 task_writes Barrier h = refl
 task_writes (Wait address) h = refl
+task_writes WaitFault h = refl
+task_writes DimFault h = refl
 task_writes action h = cc
 
 nothing_more : (bytes more : List ℕ) → more ≡ [] → bytes ≡ bytes ++ more

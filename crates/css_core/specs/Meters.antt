@@ -1,10 +1,10 @@
 -- Worlds that end by their units.
 use Rattle.std.specs.Prelude.{◌≡◌, ℕ, ◌+◌, ◌-◌, ◌≤◌, [], ◌∷◌, true, false, if◌then◌else◌}
-use Rattle.css_semantics.specs.Dialogue.{Says}
-use Rattle.css_core.specs.Dialogue.{Item, Tape, World}
-use Rattle.css_core.specs.Actions.{taking_of, is_of_calls}
-use Rattle.css_core.specs.Units.{unit_of, metered_by}
-use Rattle.css_core.specs.Tasks.{is_inside}
+use Rattle.css_semantics.specs.Dialogue.{Reply, Says, Item, Tape, World}
+use Rattle.css_semantics.specs.Actions.{Taking, OnEntry, OnTurn, NoUnit, taking_of}
+use Rattle.css_semantics.specs.Tasks.{unit_of}
+use Rattle.css_semantics.specs.Units.{within}
+use Rattle.css_core.specs.Inside.{is_of_calls, is_inside}
 
 -- A world ends by the units that it has at a tape: nothing that it lets go on gives any, and each entry takes one.
 pub record Spends (w : World) (units_at : Tape → ℕ) : Type 0 where
@@ -33,6 +33,11 @@ task_left units (i ∷ tape) = if is_inside tape then task_left units tape - uni
 abbrev pub units_left : (main task : ℕ) → Tape → ℕ
 units_left main task tape = if is_inside tape then task_left task tape else main_left main tape
 
--- it refuses what another one lets go on, where no unit is left
+abbrev pub allowed_by : Taking → (units : ℕ) → Reply → Reply
+allowed_by OnEntry units reply = within units reply
+allowed_by OnTurn units reply = within units reply
+allowed_by NoUnit units reply = reply
+
+-- it refuses what takes a unit and another one lets go on, where no unit is left
 abbrev pub metering : (main task : ℕ) → World → World
-metering main task w tape i = metered_by (taking_of i.action) (units_left main task tape) (w tape i)
+metering main task w tape i = allowed_by (taking_of i.action) (units_left main task tape) (w tape i)

@@ -12,12 +12,12 @@ use Rattle.css_base.specs.declared.int_type.IntType.{IntType}
 use Rattle.css_base.specs.declared.int_type.IntType.TheVariants.{Int, UInt}
 use Rattle.css_num.specs.declared.operators.UnOp.TheVariants as unary
 use Rattle.css_num.specs.declared.operators.BinOp.TheVariants as binary
-use Rattle.css_semantics.specs.Verdict.{OfFinish, OfWait, Image, Verdict}
+use Rattle.css_semantics.specs.Dialogue.{World}
+use Rattle.css_semantics.specs.Verdict.{OfFinish, OfWait, Image, Verdict, judged_in, verdict}
 use Rattle.css_core.specs.Core as core
 use Rattle.css_core.specs.Core.{Expression, Number, Local, Value, Call, Input, Print, Expressions, Empty, More, Old, New, Signed, Unsigned, Literal, Shown, Piece, Statement, Eval, Block, If, Loop, Return, Mark, Await, Statements, Nothing, Then, Part, Scalar, Window, Task, Function, Datum, Program}
 use Rattle.css_core.specs.Functions.{source}
-use Rattle.css_core.specs.Worlds.{start_of}
-use Rattle.css_core.specs.Judged.{judged_in, verdict}
+use Rattle.css_core.specs.Starts.{start_of}
 use Rattle.css_core.specs.Elaboration.{Operand, in_type, unary_of, binary_of, assigned, updated, stepped, element}
 
 -- ---- what a row shows
@@ -25,8 +25,12 @@ use Rattle.css_core.specs.Elaboration.{Operand, in_type, unary_of, binary_of, as
 abbrev pub row_limits : Limits
 row_limits = record { workers = 1; bundle = 1; local_store = 32768; memory = 2097152; main_units = 1000; task_units = 1000 }
 
+-- the world in which a program is judged that has nothing to read
+abbrev pub judged_world : Program → World
+judged_world p = judged_in row_limits (start_of row_limits.memory [] p)
+
 abbrev pub run : (input : List ℕ) → Program → (fuel : ℕ) → Option Verdict
-run input p fuel = let start = start_of row_limits.memory input p in verdict start (source (judged_in row_limits start) fuel p)
+run input p fuel = let start = start_of row_limits.memory input p in verdict start.memory (source (judged_in row_limits start) fuel p)
 
 abbrev pub ending_of : Option Verdict → Option Ending
 ending_of v = option_map (λ v. v.ending) v

@@ -1,7 +1,7 @@
 use Rattle.std.proofs.Common.{[], map, subst}
 use Rattle.css_base.specs.declared.int_type.IntType.TheVariants.{Int}
 use Rattle.css_num.specs.Types.{IsInRange}
-use Rattle.css_core.specs.Dialogue.{Plain}
+use Rattle.css_semantics.specs.Dialogue.{Plain}
 use Rattle.css_core.specs.Functions.{calls}
 use Rattle.css_core.specs.Typed.{signature}
 use Rattle.css_core.proofs.InRange.{Comes, no_arguments, fits_value, fits_calls, fits_source}
