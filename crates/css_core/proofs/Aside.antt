@@ -8,29 +8,30 @@ use Rattle.css_semantics.specs.Dialogue.{Reply, Says, Fails, Refuses, Stopped, T
 use Rattle.css_core.specs.Core.{Expression, Number, Local, Given, Value, Convert, Unary, Binary, And, Or, Choice, Sequence, Expressions, Empty, More}
 use Rattle.css_core.specs.Expressions.{calls_nothing, is_true, load, given, value_of, values_of}
 use Rattle.css_core.specs.Quiet.{is_quiet, AreQuiet}
-use Rattle.css_core.specs.Plain.{plain, IsQuietTape}
-use Rattle.css_core.specs.Inside.{makes_tasks}
-use Rattle.css_core.specs.Erased.{Erases}
+use Rattle.css_semantics.specs.Plain.{plain}
+use Rattle.css_semantics.specs.Tasks.{makes_tasks}
+use Rattle.css_core.specs.Erases.{Erases}
 use Rattle.css_core.proofs.StaysInside.{makes_behind_load}
 use Rattle.css_core.proofs.MoreFuel.{Grows, grows_then}
-use Rattle.css_core.proofs.Kept.{Both, Making}
+use Rattle.css_semantics.specs.Erased.{IsErased}
+use Rattle.css_core.proofs.Kept.{Making}
 
--- nothing but loads was asked aside, and calls make tasks
+-- calls make tasks
 abbrev pub IsHere : Tape → Type 0
-IsHere t = IsQuietTape t × (makes_tasks t ≡ true)
+IsHere t = makes_tasks t ≡ true
 
 -- the outcome has the same plain tape, and is at no fault; where it goes on, calls still make tasks
 abbrev pub IsAside : {A : Type 0} → Tape → Outcome A → Type 0
 IsAside t (Goes a t') = IsHere t' × (plain t' ≡ plain t)
 IsAside t (Stops (Stopped (stops.Fault kind) line) t') = ⊥
-IsAside t (Stops (Stopped (stops.Rule rule) line) t') = IsQuietTape t' × (plain t' ≡ plain t)
-IsAside t (Stops Tired t') = IsQuietTape t' × (plain t' ≡ plain t)
+IsAside t (Stops (Stopped (stops.Rule rule) line) t') = plain t' ≡ plain t
+IsAside t (Stops Tired t') = plain t' ≡ plain t
 
 aside_from : {A : Type 0} (o : Outcome A) (t mid : Tape) → plain mid ≡ plain t → IsAside mid o → IsAside t o
 aside_from (Goes a t') t mid e h = (h.0, h.1 ∙ e)
 aside_from (Stops (Stopped (stops.Fault kind) line) t') t mid e h = h
-aside_from (Stops (Stopped (stops.Rule rule) line) t') t mid e h = (h.0, h.1 ∙ e)
-aside_from (Stops Tired t') t mid e h = (h.0, h.1 ∙ e)
+aside_from (Stops (Stopped (stops.Rule rule) line) t') t mid e h = h ∙ e
+aside_from (Stops Tired t') t mid e h = h ∙ e
 
 aside_then : {A B : Type 0} (o : Outcome A) (go : A → Tape → Outcome B) (t : Tape) → IsAside t o → ((a : A) (t' : Tape) → IsHere t' → IsAside t' (go a t')) → IsAside t (then_do o go)
 aside_then (Goes a t') go t h next = aside_from (go a t') t t' h.1 (next a t' h.0)
@@ -49,7 +50,7 @@ both false b h = cc
 -- in a mode in which faults are refused
 module _ (w : World) (mode : Mode) (aside : is_aside_in mode ≡ true) (refused : (A : Type 0) (kind : FaultKind) (line : ℕ) (t : Tape) → IsHere t → IsAside t (fault_in {A = A} w mode kind line t)) (base line : ℕ) where
   here_load : (address width : ℕ) (t : Tape) → IsHere t → IsHere (item_in mode (Load address width) line ∷ t)
-  here_load address width t here = ((rw aside refl, here.0), makes_behind_load mode address width line t ∙ here.1)
+  here_load address width t here = makes_behind_load mode address width line t ∙ here
 
   plain_load : (address width : ℕ) (t : Tape) → plain (item_in mode (Load address width) line ∷ t) ≡ plain t
   plain_load address width t = rw aside refl
@@ -58,7 +59,7 @@ module _ (w : World) (mode : Mode) (aside : is_aside_in mode ≡ true) (refused 
   aside_reply (Says value) address width t here = (here_load address width t here, plain_load address width t)
   aside_reply Fails address width t here =
       aside_from _ t (item_in mode (Load address width) line ∷ t) (plain_load address width t) (refused ℕ _ line (item_in mode (Load address width) line ∷ t) (here_load address width t here))
-  aside_reply (Refuses rule) address width t here = (here.0, refl)
+  aside_reply (Refuses rule) address width t here = refl
 
   aside_load : (t' : _) (place : ℤ) (t : Tape) → IsHere t → IsAside t (load w calls_nothing base mode line t' place t)
   aside_load t' place t here = aside_then (ask_in w mode _ line t) _ t (aside_reply (w t _) _ _ t here) (λ r u q. (q, refl))
@@ -99,33 +100,33 @@ module _ (w : World) (mode : Mode) (aside : is_aside_in mode ≡ true) (refused 
 pub aside_binds : {A B : Type 0} (o : Outcome A) (go : A → Tape → Outcome B) (t : Tape) → IsAside t o → ((a : A) (t' : Tape) → IsHere t' → IsAside t' (go a t')) → IsAside t (then_do o go)
 aside_binds o go t h next = aside_then o go t h next
 
-by_refusal : (A : Type 0) (r : Reply) (rule : Rule) (kind : FaultKind) (i : Item) (t : Tape) → r ≡ Refuses rule → IsQuietTape t → IsAside t (at_fault {A = A} r kind i t)
-by_refusal A (Says value) rule kind i t e quiet = cc
-by_refusal A Fails rule kind i t e quiet = cc
-by_refusal A (Refuses rule') rule kind i t e quiet = (quiet, refl)
+by_refusal : (A : Type 0) (r : Reply) (rule : Rule) (kind : FaultKind) (i : Item) (t : Tape) → r ≡ Refuses rule → IsAside t (at_fault {A = A} r kind i t)
+by_refusal A (Says value) rule kind i t e = cc
+by_refusal A Fails rule kind i t e = cc
+by_refusal A (Refuses rule') rule kind i t e = refl
 
 module _ (w w' : World) (Comes : Tape → Type 0) (erases : Erases w w' Comes) where
   pub waits_refused : (A : Type 0) (kind : FaultKind) (line : ℕ) (t : Tape) → IsHere t → IsAside t (fault_in {A = A} w Waiting kind line t)
   waits_refused A kind line t here =
-      let refusal = erases.waits line t here.1 in
-      by_refusal A (w t (item_in Waiting WaitFault line)) refusal.0 kind (item_in Waiting WaitFault line) t refusal.1 here.0
+      let refusal = erases.waits line t here in
+      by_refusal A (w t (item_in Waiting WaitFault line)) refusal.0 kind (item_in Waiting WaitFault line) t refusal.1
 
   pub measures_refused : (arguments : List ℤ) (A : Type 0) (kind : FaultKind) (line : ℕ) (t : Tape) → IsHere t → IsAside t (fault_in {A = A} w (Measuring arguments) kind line t)
   measures_refused arguments A kind line t here =
-      let refusal = erases.measures arguments line t here.1 in
-      by_refusal A (w t (item_in (Measuring arguments) DimFault line)) refusal.0 kind (item_in (Measuring arguments) DimFault line) t refusal.1 here.0
+      let refusal = erases.measures arguments line t here in
+      by_refusal A (w t (item_in (Measuring arguments) DimFault line)) refusal.0 kind (item_in (Measuring arguments) DimFault line) t refusal.1
 
 -- a dialogue aside, and then another one
 module _ (Comes : Tape → Type 0) where
-  by_aside : {A B : Type 0} (o : Outcome A) (go : A → Tape → Outcome B) (d' : Tape → Outcome B) (t : Tape) → IsAside t o → ((a : A) → Making Comes B (go a) d') → ((t : Tape) → Grows t (d' t)) → Comes (tape_of (then_do o go)) → Both (then_do o go) (d' (plain t))
-  by_aside (Goes a t') go d' t h next grows comes = subst (λ tape. Both (go a t') (d' tape)) h.1 ((next a).erases t' h.0.1 h.0.0 comes)
+  by_aside : {A B : Type 0} (o : Outcome A) (go : A → Tape → Outcome B) (d' : Tape → Outcome B) (t : Tape) → IsAside t o → ((a : A) → Making Comes B (go a) d') → ((t : Tape) → Grows t (d' t)) → Comes (tape_of (then_do o go)) → IsErased (then_do o go) (d' (plain t))
+  by_aside (Goes a t') go d' t h next grows comes = subst (λ tape. IsErased (go a t') (d' tape)) h.1 ((next a).erases t' h.0 comes)
   by_aside (Stops (Stopped (stops.Fault kind) line) t') go d' t h next grows comes = absurd h
-  by_aside (Stops (Stopped (stops.Rule rule) line) t') go d' t h next grows comes = (h.0, subst (λ tape. Grows tape (d' (plain t))) (sym h.1) (grows (plain t)))
-  by_aside (Stops Tired t') go d' t h next grows comes = (h.0, subst (λ tape. Grows tape (d' (plain t))) (sym h.1) (grows (plain t)))
+  by_aside (Stops (Stopped (stops.Rule rule) line) t') go d' t h next grows comes = subst (λ tape. Grows tape (d' (plain t))) (sym h) (grows (plain t))
+  by_aside (Stops Tired t') go d' t h next grows comes = subst (λ tape. Grows tape (d' (plain t))) (sym h) (grows (plain t))
 
   pub making_aside : {A B : Type 0} (d : Tape → Outcome A) {go : A → Tape → Outcome B} {d' : Tape → Outcome B} → ((t : Tape) → Grows t (d t)) → ((t : Tape) → IsHere t → IsAside t (d t)) → ((a : A) → Making Comes B (go a) d') → ((t : Tape) → Grows t (d' t)) → Making Comes B (λ t. then_do (d t) go) d'
   making_aside d {go} {d'} adds aside next grows = record {
     adds = λ t. grows_then (d t) go t (adds t) (λ a. (next a).adds);
     grows = grows;
-    erases = λ t makes quiet. by_aside (d t) go d' t (aside t (quiet, makes)) next grows;
+    erases = λ t makes. by_aside (d t) go d' t (aside t makes) next grows;
   }

@@ -10,7 +10,7 @@ use Rattle.css_semantics.specs.Tasks.{Body, unit_of, body_after, body, main_unit
 use Rattle.css_semantics.specs.Rules.{wants_unit, checks_of_main, checks_of_task, first_broken, hit, judged_reply}
 use Rattle.css_semantics.specs.Verdict.{judged_in}
 use Rattle.css_semantics.proofs.Checks.{are_kept}
-use Rattle.css_core.specs.Inside.{is_of_calls}
+use Rattle.css_semantics.specs.Actions.{is_of_calls}
 use Rattle.css_core.specs.Meters.{SpendsApart}
 use Rattle.css_core.proofs.StaysInside.{outside_none, inside_some}
 

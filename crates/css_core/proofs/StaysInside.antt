@@ -2,7 +2,8 @@
 use Rattle.std.proofs.Common.{◌≡◌, ℕ, Bool, true, false, not, ◌&&◌, Option, Some, None, is_none, option_map, ◌∷◌, refl, ap}
 use Rattle.css_semantics.specs.Dialogue.{Action, Load, Calls, Returns, Wait, Item, item, item_in, Mode, Tape}
 use Rattle.css_semantics.specs.Tasks.{Body, body_after, is_started, body}
-use Rattle.css_core.specs.Inside.{is_of_calls, is_inside, makes_tasks}
+use Rattle.css_semantics.specs.Actions.{is_of_calls}
+use Rattle.css_semantics.specs.Tasks.{is_inside, makes_tasks}
 
 none_mapped : {A B : Type 0} (f : A → B) (o : Option A) → is_none (option_map f o) ≡ is_none o
 none_mapped f None = refl

@@ -4,7 +4,8 @@ use Rattle.css_semantics.specs.Dialogue.{Reply, Says, Item, Tape, World}
 use Rattle.css_semantics.specs.Actions.{Taking, OnEntry, OnTurn, NoUnit, taking_of}
 use Rattle.css_semantics.specs.Tasks.{unit_of}
 use Rattle.css_semantics.specs.Units.{within}
-use Rattle.css_core.specs.Inside.{is_of_calls, is_inside}
+use Rattle.css_semantics.specs.Actions.{is_of_calls}
+use Rattle.css_semantics.specs.Tasks.{is_inside}
 
 -- A world ends by the units that it has at a tape: nothing that it lets go on gives any, and each entry takes one.
 pub record Spends (w : World) (units_at : Tape → ℕ) : Type 0 where

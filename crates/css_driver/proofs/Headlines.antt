@@ -10,9 +10,9 @@ use Rattle.css_small.specs.Tree.{Program}
 use Rattle.css_small.specs.Texts.{Spells}
 use Rattle.css_small_code.specs.Meaning.{source}
 use Rattle.css_erasing.specs.Unmarked.{unmarked}
-use Rattle.css_erasing.specs.Plain.{entries}
-use Rattle.css_erasing.specs.Erased.{IsPassed, Answers}
-use Rattle.css_erasing.specs.Points.{points, erased_image}
+use Rattle.css_semantics.specs.Plain.{entries}
+use Rattle.css_semantics.specs.Erased.{IsPassed, Answers}
+use Rattle.css_semantics.specs.Points.{points, erased_image}
 use Rattle.css_words.specs.declared.command.Command.{Command}
 use Rattle.css_words.specs.declared.command.Command.TheVariants.{Run}
 use Rattle.css_words.specs.declared.request.Request.{Request}

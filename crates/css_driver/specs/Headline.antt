@@ -9,9 +9,9 @@ use Rattle.css_lexemes.specs.Lines.{erased}
 use Rattle.css_small.specs.Tree.{Program}
 use Rattle.css_small.specs.Texts.{Spells}
 use Rattle.css_small_code.specs.Meaning.{source}
-use Rattle.css_erasing.specs.Plain.{entries}
-use Rattle.css_erasing.specs.Erased.{IsPassed, Answers}
-use Rattle.css_erasing.specs.Points.{points, erased_image}
+use Rattle.css_semantics.specs.Plain.{entries}
+use Rattle.css_semantics.specs.Erased.{IsPassed, Answers}
+use Rattle.css_semantics.specs.Points.{points, erased_image}
 use Rattle.css_driver.specs.Answer.{Answer, ending_line, ending_status}
 
 -- The answer is a verdict's: its output, and its ending's report and status. The text without its directives spells a program. With each

@@ -9,9 +9,9 @@ use Rattle.css_semantics.specs.Tasks.{unit_of}
 use Rattle.css_semantics.specs.Rules.{hit, judged_reply}
 use Rattle.css_semantics.specs.Verdict.{judged_in}
 use Rattle.css_small_code.proofs.Grows.{Grows, grows_then, grows_ask}
-use Rattle.css_erasing.specs.Plain.{is_of_tasks, is_left_out, plain, entries}
-use Rattle.css_erasing.specs.Erased.{IsErased}
-use Rattle.css_erasing.proofs.Tapes.{plain_stays, stays_in, left_behind}
+use Rattle.css_semantics.specs.Plain.{is_of_tasks, is_left_out, plain, entries}
+use Rattle.css_semantics.specs.Erased.{IsErased}
+use Rattle.css_semantics.proofs.PlainTapes.{plain_stays, plain_without, stays_in, left_behind}
 use Rattle.css_erasing.proofs.Kept.{Kept}
 
 -- ---- replies
@@ -88,9 +88,6 @@ module _ (limits : Limits) (start : FlatState) (n : ℕ) where
       → entries (tape_of (then_do (replied (judged_reply broken (Says value)) i tape) go)) ≤ n → IsErased (then_do (replied (judged_reply broken (Says value)) i tape) go) q
   by_rule None i tape value go q grows h few = h few
   by_rule (Some rule) i tape value go q grows h few = grows
-
-  plain_without : (action : Action) (line : ℕ) (tape : Tape) → is_of_tasks action ≡ true → plain (item action line ∷ tape) ≡ plain tape
-  plain_without action line tape is = rw is refl
 
   told : {A : Type 0} (action : Action) → is_of_tasks action ≡ true → (value : ℕ) → IsTold action value → (line : ℕ) (go : ℕ → Tape → Outcome A) (d' : Tape → Outcome A) → Kept n (go value) d' → (tape : Tape)
       → entries (tape_of (then_do (ask w action line tape) go)) ≤ n → IsErased (then_do (ask w action line tape) go) (d' (plain tape))

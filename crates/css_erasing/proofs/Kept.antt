@@ -5,9 +5,13 @@ use Rattle.css_base.specs.declared.ending.FaultKind.{FaultKind}
 use Rattle.css_semantics.specs.Dialogue.{Fault, item, Tape, Outcome, Goes, Stops, Stopped, Tired, tape_of, then_do, fault}
 use Rattle.css_small_code.specs.Meaning.{given, Flow, Next, Returned, on_next}
 use Rattle.css_small_code.proofs.Grows.{Grows, grows_then, grows_if}
-use Rattle.css_erasing.specs.Plain.{plain, entries}
-use Rattle.css_erasing.specs.Erased.{IsErased}
-use Rattle.css_erasing.proofs.Tapes.{more_entries}
+use Rattle.css_semantics.specs.Plain.{plain, entries}
+use Rattle.css_semantics.specs.Erased.{IsErased}
+use Rattle.css_semantics.proofs.PlainTapes.{entries_append}
+
+-- what grows from a tape has no fewer entries
+more_entries : {A : Type 0} (o : Outcome A) (tape : Tape) → Grows tape o → entries tape ≤ entries (tape_of o)
+more_entries o tape h = omega (arith, ap entries h.1, entries_append h.0 tape)
 
 -- With so many units, behind each tape the second dialogue is what comes of the first where directives are erased. Both only add to a
 -- tape.

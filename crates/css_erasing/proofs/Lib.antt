@@ -1,4 +1,3 @@
-pub mod Tapes
 pub mod Kept
 pub mod Asked
 pub mod Expressions

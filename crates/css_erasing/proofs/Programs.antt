@@ -8,9 +8,9 @@ use Rattle.css_small.specs.Tree.{Program}
 use Rattle.css_small_code.specs.Meaning.{Exit, finished, main_left, applied, calls, frame_of, source}
 use Rattle.css_small_code.proofs.Grows.{grows_if, grows_ask}
 use Rattle.css_erasing.specs.Unmarked.{unmarked, unmarked_function}
-use Rattle.css_erasing.specs.Plain.{plain, entries}
-use Rattle.css_erasing.specs.Erased.{IsErased}
-use Rattle.css_erasing.proofs.Tapes.{never_started}
+use Rattle.css_semantics.specs.Plain.{plain, entries}
+use Rattle.css_semantics.specs.Erased.{IsErased}
+use Rattle.css_semantics.proofs.PlainTapes.{never_started}
 use Rattle.css_erasing.proofs.Kept.{Kept, kept_then, kept_goes, kept_either, kept_from}
 use Rattle.css_semantics.proofs.Tapes.{then_goes}
 use Rattle.css_erasing.proofs.Asked.{w, w', kept_ask, kept_told}

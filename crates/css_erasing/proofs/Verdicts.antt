@@ -15,9 +15,9 @@ use Rattle.css_small_code.specs.Fuel.{Extends}
 use Rattle.css_small_code.proofs.Grows.{Grows}
 use Rattle.css_small_code.proofs.MoreFuel.{extends_source}
 use Rattle.css_erasing.specs.Unmarked.{unmarked}
-use Rattle.css_erasing.specs.Plain.{plain, entries}
-use Rattle.css_erasing.specs.Erased.{IsErased, Answers}
-use Rattle.css_erasing.proofs.Tapes.{same_output}
+use Rattle.css_semantics.specs.Plain.{plain, entries}
+use Rattle.css_semantics.specs.Erased.{IsErased, Answers}
+use Rattle.css_semantics.proofs.PlainTapes.{same_output}
 use Rattle.css_erasing.proofs.Programs.{erased_source}
 
 -- what extends an outcome has its tape behind it

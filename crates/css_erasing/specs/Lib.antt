@@ -1,4 +1,1 @@
 pub mod Unmarked
-pub mod Plain
-pub mod Erased
-pub mod Points

@@ -12,9 +12,9 @@ ghost use Rattle.css_small.specs.Texts.{Spells};
 ghost use Rattle.css_small_code.specs.Meaning.{source};
 ghost use Rattle.css_small_code.specs.Marks.{HasNoDirectives};
 ghost use Rattle.css_erasing.specs.Unmarked.{unmarked};
-ghost use Rattle.css_erasing.specs.Plain.{plain, entries};
-ghost use Rattle.css_erasing.specs.Erased.{IsPassed, IsErased, Answers};
-ghost use Rattle.css_erasing.specs.Points.{Point, points, erased_image};
+ghost use Rattle.css_semantics.specs.Plain.{plain, entries};
+ghost use Rattle.css_semantics.specs.Erased.{IsPassed, IsErased, Answers};
+ghost use Rattle.css_semantics.specs.Points.{Point, points, erased_image};
 
 use css_erased_text::erasing_twice_is_once;
 use css_small::one_reading;

@@ -14,3 +14,5 @@ pub mod TaskRows
 pub mod TaskOuts
 pub mod TaskKept
 pub mod WindowRanges
+pub mod PlainTapes
+pub mod Points

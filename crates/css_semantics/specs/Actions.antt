@@ -1,5 +1,5 @@
 -- What an action is: to a memory, to the units, to tasks, and for whom it is asked.
-use Rattle.std.specs.Prelude.{ℕ, List}
+use Rattle.std.specs.Prelude.{ℕ, Bool, true, false, List}
 use Rattle.css_semantics.specs.Dialogue.{Action, Enter, Turn, Leave, Load, Store, Out, In, Malloc, Calls, Returns, Start, Finish, Barrier, Wait, WaitFault, DimFault, Fault, End, Call}
 
 -- ---- memory
@@ -112,6 +112,15 @@ boundary_of WaitFault = NoBoundary
 boundary_of DimFault = NoBoundary
 boundary_of (Fault kind) = NoBoundary
 boundary_of (End result) = NoBoundary
+
+-- a task's call or its return
+abbrev pub bounds : Boundary → Bool
+bounds (BodyBegins call) = true
+bounds BodyEnds = true
+bounds NoBoundary = false
+
+abbrev pub is_of_calls : Action → Bool
+is_of_calls action = bounds (boundary_of action)
 
 -- what an action is as a directive: it begins to make tasks of calls, ends that, or waits, for all tasks or for the object at an
 -- address

@@ -13,3 +13,6 @@ pub mod Alone
 pub mod TaskSpaces
 pub mod WithWindow
 pub mod WindowRanges
+pub mod Plain
+pub mod Erased
+pub mod Points

@@ -1,5 +1,5 @@
 -- What a tape says of tasks: whether calls make them, which one runs, its windows and frames, and what main has used.
-use Rattle.std.specs.Prelude.{ℕ, zero, suc, ◌+◌, ◌-◌, ◌*◌, ℤ, pos, negsuc, Bool, true, false, ◌&&◌, ◌||◌, List, [], ◌∷◌, drop, length, fold, map, ◌==◌, Option, Some, None, is_none, option_map, if◌then◌else◌}
+use Rattle.std.specs.Prelude.{ℕ, zero, suc, ◌+◌, ◌-◌, ◌*◌, ℤ, pos, negsuc, Bool, true, false, not, ◌&&◌, ◌||◌, List, [], ◌∷◌, drop, length, fold, map, ◌==◌, Option, Some, None, is_none, option_map, if◌then◌else◌}
 use Rattle.css_base.specs.declared.direction.Direction.{Direction}
 use Rattle.css_base.specs.declared.direction.Direction.TheVariants as directions
 use Rattle.css_semantics.specs.Dialogue.{Action, Tape, Argument, Call}
@@ -194,3 +194,13 @@ inside tape = option_map (λ b. called tape - 1) (body tape)
 abbrev pub main_units : Tape → ℕ
 main_units [] = 0
 main_units (i ∷ tape) = if is_none (body tape) then main_units tape + unit_of i.action else main_units tape
+
+-- ---- whether calls make tasks
+
+-- a task's call hasn't returned
+abbrev pub is_inside : Tape → Bool
+is_inside tape = not (is_none (body tape))
+
+-- calls of tasks make tasks where that was started, outside of all tasks
+abbrev pub makes_tasks : Tape → Bool
+makes_tasks tape = is_started tape && not (is_inside tape)

@@ -1,7 +1,8 @@
-use Rattle.css_erasing.proofs.Tapes.{same_output, same_memory}
+use Rattle.css_semantics.proofs.PlainTapes.{same_output, same_memory}
 use Rattle.css_semantics.specs.Verdict.{judged_in}
 use Rattle.css_small_code.specs.Meaning.{source}
-use Rattle.css_erasing.proofs.Points.{passed, verdict_images, passed_points}
+use Rattle.css_semantics.proofs.Points.{verdict_images}
+use Rattle.css_erasing.proofs.Points.{passed, passed_points}
 use Rattle.css_erasing.proofs.laws.points_are_the_erased_programs.Goals as goal
 
 pub returns-clause-passed : goal.returns-clause-passed

@@ -6,7 +6,7 @@ use Rattle.css_semantics.specs.Memory.{Memory, image, memory_after}
 use Rattle.css_semantics.specs.Pending.{pending}
 use Rattle.css_semantics.specs.Tasks.{Window, is_started}
 use Rattle.css_semantics.specs.Verdict.{ImageKind, OfBarrier, OfFinish, OfWait, Image, bytes_of_window}
-use Rattle.css_erasing.specs.Plain.{plain}
+use Rattle.css_semantics.specs.Plain.{plain}
 
 -- A point: the tape before it, what the image is taken at, its line, the address that is waited for or 0, and the window that is
 -- pending there, or none where the image is of all live bytes.

@@ -7,9 +7,8 @@ use Rattle.css_semantics.specs.Memory.{Memory, memory_after}
 use Rattle.css_semantics.specs.Flat.{FlatState, flat_after, flat_at}
 use Rattle.css_semantics.specs.Tasks.{is_started}
 use Rattle.css_semantics.specs.Units.{Metered, with_units, spending}
-use Rattle.css_erasing.specs.Plain.{is_of_tasks, is_loading, is_left_out, plain, entries}
+use Rattle.css_semantics.specs.Plain.{is_of_tasks, is_loading, is_left_out, plain, entries}
 use Rattle.css_semantics.specs.Actions.{access_of}
-use Rattle.css_small_code.proofs.Grows.{Grows}
 
 -- an item that isn't left out stays
 pub plain_stays : (i : Item) (tape : Tape) → is_left_out i ≡ false → plain (i ∷ tape) ≡ i ∷ plain tape
@@ -24,13 +23,16 @@ neither false false is = refl
 pub stays_in : (action : Action) (line : ℕ) → is_of_tasks action ≡ false → is_left_out (item action line) ≡ false
 stays_in action line is = neither (is_of_tasks action) (is_loading (access_of action)) is
 
+pub plain_keeps : (action : Action) (line : ℕ) (tape : Tape) → is_of_tasks action ≡ false → plain (item action line ∷ tape) ≡ item action line ∷ plain tape
+plain_keeps action line tape is = plain_stays (item action line) tape (stays_in action line is)
+
+-- what is of tasks doesn't stay
+pub plain_without : (action : Action) (line : ℕ) (tape : Tape) → is_of_tasks action ≡ true → plain (item action line ∷ tape) ≡ plain tape
+plain_without action line tape is = rw is refl
+
 pub entries_append : (newer tape : Tape) → entries (newer ++ tape) ≡ entries newer + entries tape
 entries_append [] tape = omega arith
 entries_append (i ∷ newer) tape = omega (arith, entries_append newer tape)
-
--- what grows from a tape has no fewer entries
-pub more_entries : {A : Type 0} (o : Outcome A) (tape : Tape) → Grows tape o → entries tape ≤ entries (tape_of o)
-more_entries o tape h = omega (arith, ap entries h.1, entries_append h.0 tape)
 
 -- an item with these parts
 abbrev made : Action → (line : ℕ) → Bool → Item
@@ -106,7 +108,7 @@ state_only : (start : FlatState) (n : ℕ) (tape : Tape) → (state_after (spend
 state_only start n [] = refl
 state_only start n (i ∷ tape) = only_by start n i.action tape (state_only start n tape)
 
-same_state : (start : FlatState) (tape : Tape) → flat_at start (plain tape) ≡ flat_at start tape
+pub same_state : (start : FlatState) (tape : Tape) → flat_at start (plain tape) ≡ flat_at start tape
 same_state start tape = sym (state_only start 0 (plain tape)) ∙ ap (λ (s : Metered FlatState). s.state) (left_behind start 0 tape)
 
 pub same_memory : (start : Memory) (tape : Tape) → memory_after start (plain tape) ≡ memory_after start tape

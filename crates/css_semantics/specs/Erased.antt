@@ -4,7 +4,7 @@ use Rattle.css_base.specs.declared.ending.Stop.TheVariants as stops
 use Rattle.css_base.specs.declared.ending.Ending.{Ending}
 use Rattle.css_base.specs.declared.ending.Ending.TheVariants as endings
 use Rattle.css_semantics.specs.Dialogue.{Tape, Outcome, Goes, Stops, Stopped, Tired, tape_of, output}
-use Rattle.css_erasing.specs.Plain.{plain}
+use Rattle.css_semantics.specs.Plain.{plain}
 
 -- a tape has the plain tape of another behind it, and maybe more
 abbrev pub IsPassed : Tape → (erased : Tape) → Type 0
