@@ -1,17 +1,18 @@
 -- Under the rules main and each task have units of their own.
-use Rattle.std.proofs.Common.{◌≡◌, ℕ, ◌+◌, ◌-◌, ◌≤◌, false, if◌then◌else◌, Option, Some, None, is_none, ◌∷◌, refl, sym, ap, ◌∙◌, subst, arith}
+use Rattle.std.proofs.Common.{◌≡◌, ℕ, ◌+◌, ◌-◌, ◌≤◌, false, Option, Some, None, ◌∷◌, refl, sym, ap, ◌∙◌, arith}
 use Rattle.std.proofs.lemmas.Bool.{leb-false}
 use Rattle.css_base.specs.declared.limits.Limits.{Limits}
 use Rattle.css_base.specs.declared.rule.Rule.{Rule}
-use Rattle.css_semantics.specs.Dialogue.{Action, Enter, Turn, Calls, Returns, Item, Tape, Reply, Says}
+use Rattle.css_semantics.specs.Dialogue.{Action, Enter, Turn, Item, Tape, Reply, Says}
 use Rattle.css_semantics.specs.Memory.{Memory, memory_after}
 use Rattle.css_semantics.specs.Flat.{FlatState, in_memory}
-use Rattle.css_semantics.specs.Tasks.{Body, unit_of, body_after, body, main_units}
+use Rattle.css_semantics.specs.Tasks.{Body, unit_of, body, main_units}
 use Rattle.css_semantics.specs.Rules.{wants_unit, checks_of_main, checks_of_task, first_broken, hit, judged_reply}
 use Rattle.css_semantics.specs.Verdict.{judged_in}
 use Rattle.css_semantics.proofs.Checks.{are_kept}
 use Rattle.css_semantics.specs.Actions.{is_of_calls}
 use Rattle.css_core.specs.Meters.{SpendsApart}
+use Rattle.css_core.proofs.UnitsTaken.{used, main_takes, main_keeps, task_takes}
 use Rattle.css_core.proofs.StaysInside.{outside_none, inside_some}
 
 -- ---- what the rules allow
@@ -24,17 +25,6 @@ left_for : (limit used : ℕ) (action : Action) → wants_unit limit used action
 left_for limit used (Enter size) h = let less = leb-false limit used h in omega (arith, less)
 left_for limit used Turn h = let less = leb-false limit used h in omega (arith, less)
 left_for limit used action h = omega arith
-
--- the units that a task has taken, 0 where none runs
-abbrev used : Option Body → ℕ
-used None = 0
-used (Some b) = b.units
-
--- a task's body goes on
-goes_on : (b : Body) (action : Action) → is_of_calls action ≡ false → used (body_after (Some b) action) ≡ b.units + unit_of action
-goes_on b (Calls call) h = cc
-goes_on b Returns h = cc
-goes_on b action h = refl
 
 module _ (start : Memory) (limits : Limits) (tape : Tape) where
   pub rule_of_main : (action : Action) → body tape ≡ None → hit start limits tape action ≡ first_broken (checks_of_main (memory_after start tape) limits tape action)
@@ -54,18 +44,12 @@ module _ (start : Memory) (limits : Limits) (tape : Tape) where
   main_spends : (i : Item) → body tape ≡ None → hit start limits tape i.action ≡ None → (limits.main_units - main_units (i ∷ tape)) + unit_of i.action ≤ limits.main_units - main_units tape
   main_spends i is clear =
       let checks = checks_of_main (memory_after start tape) limits tape i.action in
-      let left = left_for limits.main_units (main_units tape) i.action (are_kept checks (sym (rule_of_main i.action is) ∙ clear)).1.1.1.1.1.1.1.1.1.0 in
-      subst (λ o. (limits.main_units - (if is_none o then main_units tape + unit_of i.action else main_units tape)) + unit_of i.action ≤ limits.main_units - main_units tape) (sym is) (omega (arith, left))
-
-  main_keeps : (i : Item) (b : Body) → body tape ≡ Some b → main_units (i ∷ tape) ≡ main_units tape
-  main_keeps i b is = ap (λ o. if is_none o then main_units tape + unit_of i.action else main_units tape) is
+      main_takes limits.main_units tape i is (left_for limits.main_units (main_units tape) i.action (are_kept checks (sym (rule_of_main i.action is) ∙ clear)).1.1.1.1.1.1.1.1.1.0)
 
   task_spends : (i : Item) (b : Body) → is_of_calls i.action ≡ false → body tape ≡ Some b → hit start limits tape i.action ≡ None
       → (limits.task_units - used (body (i ∷ tape))) + unit_of i.action ≤ limits.task_units - used (body tape)
   task_spends i b plain is clear =
-      let left = left_for limits.task_units b.units i.action (are_kept (checks_of_task limits b i.action) (sym (rule_of_task b i.action is) ∙ clear)).1.1.1.1.1.0 in
-      let more = goes_on b i.action plain in
-      subst (λ o. (limits.task_units - used (body_after o i.action)) + unit_of i.action ≤ limits.task_units - used o) (sym is) (omega (arith, left, more))
+      task_takes limits.task_units tape i b plain is (left_for limits.task_units b.units i.action (are_kept (checks_of_task limits b i.action) (sym (rule_of_task b i.action is) ∙ clear)).1.1.1.1.1.0)
 
 -- ---- the judged world
 
@@ -88,6 +72,5 @@ module _ (limits : Limits) (start : FlatState) where
         task_spends start.memory limits tape i runs.0 plain runs.1 (none_hit i tape value e);
     keeps_inside = λ i tape value inside e.
         let runs = inside_some tape inside in
-        let same = main_keeps start.memory limits tape i runs.0 runs.1 in
-        omega (arith, same);
+        main_keeps limits.main_units tape i runs.0 runs.1;
   }

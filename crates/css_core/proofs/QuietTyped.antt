@@ -34,16 +34,16 @@ module _ (signatures : List Signature) where
   quiet_places (More e others) h = (h.1, quiet_places others h.2)
 
   mutual
-    quiet_waits : (result : IntType) (s : Statement) → IsTypedStatement signatures result s → WaitsQuietly s
-    quiet_waits result (Block all) h = all_quiet_waits result all h
-    quiet_waits result (If line test s other) h = (quiet_waits result s h.1, quiet_waits result other h.2)
-    quiet_waits result (Loop line tests_first test step body) h = quiet_waits result body h.2
-    quiet_waits result (Await line places) h = quiet_places places h
-    quiet_waits result s h = tt
+    quiet_waits : (result : IntType) (in_loop : Bool) (s : Statement) → IsTypedStatement signatures result in_loop s → WaitsQuietly s
+    quiet_waits result in_loop (Block all) h = all_quiet_waits result in_loop all h
+    quiet_waits result in_loop (If line test s other) h = (quiet_waits result in_loop s h.1, quiet_waits result in_loop other h.2)
+    quiet_waits result in_loop (Loop line tests_first test step body) h = quiet_waits result true body h.2
+    quiet_waits result in_loop (Await line places) h = quiet_places places h
+    quiet_waits result in_loop s h = tt
 
-    all_quiet_waits : (result : IntType) (all : Statements) → AreTyped signatures result all → AllWaitQuietly all
-    all_quiet_waits result Nothing h = tt
-    all_quiet_waits result (Then s others) h = (quiet_waits result s h.0, all_quiet_waits result others h.1)
+    all_quiet_waits : (result : IntType) (in_loop : Bool) (all : Statements) → AreTyped signatures result in_loop all → AllWaitQuietly all
+    all_quiet_waits result in_loop Nothing h = tt
+    all_quiet_waits result in_loop (Then s others) h = (quiet_waits result in_loop s h.0, all_quiet_waits result in_loop others h.1)
 
   quiet_dimensions : (given : List IntType) (all : Expressions) → AreDimensions signatures given all → AreQuiet all
   quiet_dimensions given Empty h = tt
@@ -56,12 +56,12 @@ module _ (signatures : List Signature) where
   quiet_parts given (t ∷ types) (Scalar ∷ parts) h = quiet_parts given types parts h
   quiet_parts given (t ∷ types) (Window direction element is_strided dimensions ∷ parts) h = (quiet_dimensions given dimensions h.3, quiet_parts given types parts h.4)
 
-  quiet_task : (parameters : List IntType) (task : Option Task) → IsTaskOf signatures parameters task → HasQuietTask task
-  quiet_task parameters None h = tt
-  quiet_task parameters (Some task) h = quiet_parts parameters parameters task.parts h.1
+  quiet_task : (f : Function) (task : Option Task) → IsTaskOf signatures f task → HasQuietTask task
+  quiet_task f None h = tt
+  quiet_task f (Some task) h = quiet_parts f.parameters f.parameters task.parts h.1
 
   quiet_function : (f : Function) → IsTypedFunction signatures f → IsQuietFunction f
-  quiet_function f typed = (quiet_task f.parameters f.task typed.task, all_quiet_waits f.result f.body typed.body)
+  quiet_function f typed = (quiet_task f f.task typed.task, all_quiet_waits f.result false f.body typed.body)
 
   quiet_functions : (fs : List Function) → All (IsTypedFunction signatures) fs → All IsQuietFunction fs
   quiet_functions [] typed = λ k d less. absurd (omega arith)

@@ -1,8 +1,8 @@
 -- Worlds that end by their units.
-use Rattle.std.specs.Prelude.{◌≡◌, ℕ, ◌+◌, ◌-◌, ◌≤◌, [], ◌∷◌, true, false, if◌then◌else◌}
+use Rattle.std.specs.Prelude.{◌≡◌, ℕ, ◌+◌, ◌-◌, ◌≤◌, ◌∷◌, true, false, Some, None}
 use Rattle.css_semantics.specs.Dialogue.{Reply, Says, Item, Tape, World}
 use Rattle.css_semantics.specs.Actions.{Taking, OnEntry, OnTurn, NoUnit, taking_of}
-use Rattle.css_semantics.specs.Tasks.{unit_of}
+use Rattle.css_semantics.specs.Tasks.{unit_of, body, main_units}
 use Rattle.css_semantics.specs.Units.{within}
 use Rattle.css_semantics.specs.Actions.{is_of_calls}
 use Rattle.css_semantics.specs.Tasks.{is_inside}
@@ -22,17 +22,13 @@ pub record SpendsApart (w : World) (main_units task_units : Tape → ℕ) (most 
 
 -- ---- a world in which main and each task have so many units
 
--- what is left to main, and to the task that runs
-abbrev pub main_left : ℕ → Tape → ℕ
-main_left units [] = units
-main_left units (i ∷ tape) = if is_inside tape then main_left units tape else main_left units tape - unit_of i.action
-
-abbrev pub task_left : ℕ → Tape → ℕ
-task_left units [] = units
-task_left units (i ∷ tape) = if is_inside tape then task_left units tape - unit_of i.action else units
-
+-- what is left to the task that runs, or to main
 abbrev pub units_left : (main task : ℕ) → Tape → ℕ
-units_left main task tape = if is_inside tape then task_left task tape else main_left main tape
+units_left main task tape =
+    elim (body tape) [
+      | None ↦ main - main_units tape
+      | Some b ↦ task - b.units
+    ]
 
 abbrev pub allowed_by : Taking → (units : ℕ) → Reply → Reply
 allowed_by OnEntry units reply = within units reply

@@ -1,5 +1,5 @@
 -- Worked programs under the rules, each with its text, and what they come to by hand.
-use Rattle.std.specs.Prelude.{ℕ, ◌+◌, pos, true, false, List, [], ◌∷◌, ◌++◌, Option, Some, None, option_map}
+use Rattle.std.specs.Prelude.{ℕ, ◌+◌, pos, true, false, List, [], ◌∷◌, ◌++◌, length, Option, Some, None, option_map}
 use Rattle.css_base.specs.declared.direction.Direction.{Direction}
 use Rattle.css_base.specs.declared.direction.Direction.TheVariants.{In, Out, InOut}
 use Rattle.css_base.specs.declared.ending.Ending.{Ending}
@@ -361,3 +361,58 @@ adds_in_rows width end second = record {
       ∷ []) ∷ [];
   main = 1;
 }
+
+-- ---- where tasks begin and end to be made
+
+-- 1 #pragma css task output(d)
+-- 2 void set(int *d, int v) { *d = v; }
+-- 3 int begin(void) {
+-- 4   #pragma css start
+-- 5   return 5; }
+-- 6 int x; int main(void) {
+-- 7   set(&x, begin());
+-- 8   #pragma css finish
+-- 9   return x; }
+-- it returns 5, and the call makes a task: whether it does is asked behind its arguments
+abbrev pub begin : Function
+begin = record { line = 3; end = 5; frame = 0; parameters = []; result = Int; task = None; body = body_of (Mark 4 core.Start ∷ returns 5 (int 5) ∷ []) }
+
+abbrev pub begins_in_argument : Program
+begins_in_argument = record {
+  globals_end = 4100;
+  datums = [];
+  functions = record set { line = 2; end = 2; body = body_of (sets 2 (pointer_at 0) (int_at 8) ∷ []) }
+      ∷ begin
+      ∷ main_in 6 9 0 (calls 7 0 (More (Number (pos 4096)) (More (in_type Int (record { t = Int; e = Call 1 Empty })) Empty))
+      ∷ Mark 8 core.Finish
+      ∷ returns 9 (loaded Int (Number (pos 4096)))
+      ∷ [])
+      ∷ [];
+  main = 2;
+}
+
+-- 1 int n; int main(void) {
+-- 2   if (n) return 7;
+-- 3   n = 1;
+-- 4   #pragma css start
+-- 5   return main() + 1; }
+-- it returns 8: the outermost main alone acts as finish
+abbrev pub calls_main : Program
+calls_main = record {
+  globals_end = 4100;
+  datums = [];
+  functions = main_in 1 5 0 (If 2 (loaded Int (Number (pos 4096))).e (returns 2 (int 7)) (Block Nothing)
+      ∷ sets 3 (Number (pos 4096)) (int 1)
+      ∷ Mark 4 core.Start
+      ∷ returns 5 (binary_of binary.Add (record { t = Int; e = Call 0 Empty }) (int 1))
+      ∷ []) ∷ [];
+  main = 0;
+}
+
+-- the image of a finish in a line: an int of one byte, and no frames
+abbrev pub finish_in : (line n : ℕ) → Image
+finish_in line n = record { kind = OfFinish; line = line; address = 0; bytes = 0 ∷ 0 ∷ 0 ∷ n ∷ [] }
+
+-- how many calls of tasks a verdict has
+abbrev pub calls_of : Option Verdict → Option ℕ
+calls_of v = option_map (λ v. length v.calls) v

@@ -6,7 +6,7 @@ ghost use Rattle.css_semantics.specs.Flat.{flat};
 ghost use Rattle.css_core.specs.Functions.{source};
 ghost use Rattle.css_core.specs.Starts.{start_of};
 ghost use Rattle.css_core.specs.TaskSamples.{measures_by_zero, starting_5};
-ghost use Rattle.css_core.specs.Rows.{run, ending_of, output_of, images_of, returned, main_breaks, task_breaks, row_limits, writes_after_read, never_waits, waits_for_x, reads_pending_read, waits_by_zero, prints_numbers, takes_input, copies_again, stores_into_read, stores_into_written, wait_for_a, at_finish, adds_in_rows};
+ghost use Rattle.css_core.specs.Rows.{run, ending_of, output_of, images_of, returned, main_breaks, task_breaks, row_limits, writes_after_read, never_waits, waits_for_x, reads_pending_read, waits_by_zero, prints_numbers, takes_input, copies_again, stores_into_read, stores_into_written, wait_for_a, at_finish, adds_in_rows, begins_in_argument, calls_main, finish_in, calls_of};
 
 /// A task reads what a later one writes: it gets what was there before.
 pub fn write_after_read()
@@ -59,4 +59,13 @@ pub fn strided_windows()
     ensures overlap { ending_of (run [] (adds_in_rows 4 4 2) 20) ≡ main_breaks PartialOverlap 7 }
     ensures outside { ending_of (run [] (adds_in_rows 4 5 4) 20) ≡ task_breaks OutsideArguments 3 }
     ensures too_wide { ending_of (run [] (adds_in_rows 9 4 4) 20) ≡ main_breaks Dimension 6 }
+{}
+
+/// Whether a call makes a task is asked once its arguments are evaluated, and the end of the outermost main alone acts as finish.
+pub fn starts_and_ends()
+    ensures begun { ending_of (run [] begins_in_argument 9) ≡ returned 5 }
+    ensures called { calls_of (run [] begins_in_argument 9) ≡ Some 1 }
+    ensures finished { images_of (run [] begins_in_argument 9) ≡ Some (finish_in 8 5 ∷ []) }
+    ensures again { ending_of (run [] calls_main 9) ≡ returned 8 }
+    ensures once { images_of (run [] calls_main 9) ≡ Some (finish_in 5 1 ∷ []) }
 {}

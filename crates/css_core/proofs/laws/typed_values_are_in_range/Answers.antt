@@ -4,7 +4,8 @@ use Rattle.css_num.specs.Types.{IsInRange}
 use Rattle.css_semantics.specs.Dialogue.{Plain}
 use Rattle.css_core.specs.Functions.{calls}
 use Rattle.css_core.specs.Typed.{signature}
-use Rattle.css_core.proofs.InRange.{Comes, no_arguments, fits_value, fits_calls, fits_source}
+use Rattle.css_core.proofs.Leaving.{Comes}
+use Rattle.css_core.proofs.InRange.{no_arguments, fits_value, fits_calls, fits_source}
 use Rattle.css_core.proofs.QuietTyped.{typed_is_quiet}
 use Rattle.css_core.proofs.TypedSamples.{steps_typed, block_typed}
 use Rattle.css_core.proofs.laws.typed_values_are_in_range.Goals as goal
