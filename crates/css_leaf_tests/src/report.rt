@@ -296,129 +296,126 @@ fn graphs_have_their_texts(rt: HostRuntime) -> Result<(), NoMemory> {
 
 // ---- numbers
 
-/// Calls in chains, one chain behind the other: each call but a chain's first reads what the one before it made, in a window that is
-/// renamed.
+/// A window by what its task does with it, its rows, their width and their stride.
+type Moved = (Direction, u32, u32, u32);
+
+/// Calls in chains, one chain behind the other: each call but a chain's first reads what the one before it made, in windows of which
+/// some are renamed.
 struct StatsRow {
-    parts: &'static [ArgShape],
-    windows: &'static [Window],
+    windows: &'static [Moved],
+    renamed: &'static [bool],
     chains: u64,
     links: u64,
-    /// Which windows are renamed at the calls behind a chain's first.
-    renamed: &'static [bool],
     text: &'static str,
-}
-
-const fn part(direction: Direction, strided: bool) -> ArgShape {
-    ArgShape::Window {
-        direction,
-        element: 4,
-        dims: 3,
-        strided,
-    }
-}
-
-const fn row_of(length: u32) -> Window {
-    Window {
-        base: 8_192,
-        rows: 1,
-        width: length,
-        stride: length,
-    }
 }
 
 /// Sums of 16,384 and of 16,385 bytes; products of two matrices in blocks of 1,024 bytes, of 64, and of 1,024 in 144 chains of six; two
 /// halves of the rows of a matrix; a chain of five; and no calls.
 static STATS: [StatsRow; 8] = [
     StatsRow {
-        parts: &[
-            part(Direction::In, false),
-            ArgShape::Scalar,
-            part(Direction::Out, false),
+        windows: &[
+            (Direction::In, 1, 16_384, 16_384),
+            (Direction::Out, 1, 4, 4),
         ],
-        windows: &[row_of(16_384), row_of(4)],
+        renamed: &[],
         chains: 1,
         links: 1,
-        renamed: &[false, false],
         text: "stats tasks 1 reads 16384 writes 4 pieces 2 renamed 0 depth 1\n",
     },
     StatsRow {
-        parts: &[
-            part(Direction::In, false),
-            ArgShape::Scalar,
-            part(Direction::Out, false),
+        windows: &[
+            (Direction::In, 1, 16_385, 16_385),
+            (Direction::Out, 1, 4, 4),
         ],
-        windows: &[row_of(16_385), row_of(4)],
+        renamed: &[],
         chains: 1,
         links: 1,
-        renamed: &[false, false],
         text: "stats tasks 1 reads 16385 writes 4 pieces 3 renamed 0 depth 1\n",
     },
     StatsRow {
-        parts: &[
-            part(Direction::In, false),
-            part(Direction::In, false),
-            part(Direction::InOut, false),
+        windows: &[
+            (Direction::In, 1, 1_024, 1_024),
+            (Direction::In, 1, 1_024, 1_024),
+            (Direction::InOut, 1, 1_024, 1_024),
         ],
-        windows: &[row_of(1_024), row_of(1_024), row_of(1_024)],
+        renamed: &[false, false, true],
         chains: 16,
         links: 2,
-        renamed: &[false, false, true],
         text: "stats tasks 32 reads 98304 writes 32768 pieces 128 renamed 16 depth 2\n",
     },
     StatsRow {
-        parts: &[
-            part(Direction::In, false),
-            part(Direction::In, false),
-            part(Direction::InOut, false),
+        windows: &[
+            (Direction::In, 1, 64, 64),
+            (Direction::In, 1, 64, 64),
+            (Direction::InOut, 1, 64, 64),
         ],
-        windows: &[row_of(64), row_of(64), row_of(64)],
+        renamed: &[false, false, true],
         chains: 16,
         links: 2,
-        renamed: &[false, false, true],
         text: "stats tasks 32 reads 6144 writes 2048 pieces 128 renamed 16 depth 2\n",
     },
     StatsRow {
-        parts: &[
-            part(Direction::In, false),
-            part(Direction::In, false),
-            part(Direction::InOut, false),
+        windows: &[
+            (Direction::In, 1, 1_024, 1_024),
+            (Direction::In, 1, 1_024, 1_024),
+            (Direction::InOut, 1, 1_024, 1_024),
         ],
-        windows: &[row_of(1_024), row_of(1_024), row_of(1_024)],
+        renamed: &[false, false, true],
         chains: 144,
         links: 6,
-        renamed: &[false, false, true],
         text: "stats tasks 864 reads 2654208 writes 884736 pieces 3456 renamed 720 depth 6\n",
     },
     StatsRow {
-        parts: &[part(Direction::InOut, true), ArgShape::Scalar],
-        windows: &[Window {
-            base: 4_096,
-            rows: 8,
-            width: 16,
-            stride: 32,
-        }],
+        windows: &[(Direction::InOut, 8, 16, 32)],
+        renamed: &[],
         chains: 2,
         links: 1,
-        renamed: &[false],
         text: "stats tasks 2 reads 256 writes 256 pieces 32 renamed 0 depth 1\n",
     },
     StatsRow {
-        parts: &[part(Direction::InOut, false)],
-        windows: &[row_of(4)],
+        windows: &[(Direction::InOut, 1, 4, 4)],
+        renamed: &[true],
         chains: 1,
         links: 5,
-        renamed: &[true],
         text: "stats tasks 5 reads 20 writes 20 pieces 10 renamed 4 depth 5\n",
     },
     StatsRow {
-        parts: &[],
         windows: &[],
+        renamed: &[],
         chains: 0,
         links: 0,
-        renamed: &[],
         text: "stats tasks 0 reads 0 writes 0 pieces 0 renamed 0 depth 0\n",
     },
 ];
+
+/// What the tasks of a row are given: its windows, with an integer behind each.
+fn parts_of(alloc: Global, row: &StatsRow) -> Result<Vec<ArgShape>, NoMemory> {
+    let mut parts = Vec::new(alloc);
+    for (direction, rows, _width, _stride) in row.windows {
+        let strided = *rows != 1;
+        parts.push(ArgShape::Window {
+            direction: *direction,
+            element: 4,
+            dims: if strided { 3 } else { 1 },
+            strided,
+        })?;
+        parts.push(ArgShape::Scalar)?;
+    }
+    Ok(parts)
+}
+
+fn windows_of(alloc: Global, row: &StatsRow) -> Result<Vec<Window>, NoMemory> {
+    let mut windows = Vec::new(alloc);
+    for (_direction, rows, width, stride) in row.windows {
+        windows.push(Window {
+            base: 8_192,
+            rows: *rows,
+            width: *width,
+            stride: *stride,
+        })?;
+    }
+    Ok(windows)
+}
 
 fn chained_call(
     alloc: Global,
@@ -426,7 +423,8 @@ fn chained_call(
     number: u64,
     is_first: bool,
 ) -> Result<Call, NoMemory> {
-    let rec = record_of(alloc, number, 0, 7, row.windows)?;
+    let windows = windows_of(alloc, row)?;
+    let rec = record_of(alloc, number, 0, 7, &windows)?;
     let mut renamed = Vec::new(alloc);
     let mut producers = Vec::new(alloc);
     if !is_first {
@@ -452,7 +450,8 @@ fn chained_calls(alloc: Global, row: &StatsRow) -> Result<Vec<Call>, NoMemory> {
 }
 
 fn has_stats(alloc: Global, row: &StatsRow) -> Result<bool, NoMemory> {
-    let code = code_of(alloc, row.parts, 1)?;
+    let parts = parts_of(alloc, row)?;
+    let code = code_of(alloc, &parts, 1)?;
     let calls = chained_calls(alloc, row)?;
     let list = CallList {
         code: &code,

@@ -129,8 +129,8 @@ fn trace_by_hand(rt: HostRuntime) -> Result<(), NoMemory> {
         return Ok(());
     };
     let text = trace_text(alloc, &traces)?;
-    let wanted = b"trace\nboard 0\ns 0 inc\nchannel 7\no 31\nend\n";
-    check(&rt, "text", text.as_slice() == wanted);
+    let wanted = "trace\nboard 0\ns 0 inc\nchannel 7\no 31\nend\n";
+    check(&rt, "text", text.as_slice() == wanted.as_bytes());
     check(&rt, "parts", traces.generations.into_vec().len() == 1);
     Ok(())
 }

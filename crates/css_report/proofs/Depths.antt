@@ -1,9 +1,9 @@
 -- Depths of tasks, one after the other.
-use Rattle.std.proofs.Common.{◌≡◌, ℕ, zero, suc, ◌+◌, ◌<◌, ◌≤◌, max, ◌⊎◌, inl, inr, List, [], ◌∷◌, ◌++◌, length, map, get_or, Contains, refl, sym, ap, ◌∙◌, subst, arith}
+use Rattle.std.proofs.Common.{◌≡◌, ℕ, zero, suc, ◌+◌, ◌<◌, ◌≤◌, max, ◌⊎◌, inl, inr, List, [], ◌∷◌, ◌++◌, length, map, take, get_or, Contains, All, refl, sym, ap, ◌∙◌, subst, arith}
 use Rattle.std.proofs.lemmas.Bool.{cases_lt}
-use Rattle.std.proofs.lemmas.Grind.{get_or_default_zero}
+use Rattle.std.proofs.lemmas.Grind.{get_or_default_zero, take_at_read}
 use Rattle.std.proofs.lemmas.List.Elements.{Contains-get_or}
-use Rattle.std.proofs.lemmas.List.{get_or_past, get_or_append_left, get_or-map, length-append, length-map}
+use Rattle.std.proofs.lemmas.List.{get_or_past, get_or_append_left, get_or-map, length-append, length-map, map-append}
 use Rattle.std.proofs.Math.Seq.{get_or-append_seam}
 use Rattle.css_report.specs.Depth.{IsChain, IsDepth, IsDepthAt, AreDepths, IsMost, depths_at}
 
@@ -15,7 +15,7 @@ cases_more k n h = elim (cases_lt k n) [
   | inr ge ↦ inr (omega arith)
 ]
 
-length_more : (xs : List ℕ) (x : ℕ) → length (xs ++ x ∷ []) ≡ length xs + 1
+pub length_more : (xs : List ℕ) (x : ℕ) → length (xs ++ x ∷ []) ≡ length xs + 1
 length_more xs x = length-append xs (x ∷ [])
 
 at_old : (xs : List ℕ) (x k : ℕ) → k < length xs → get_or (xs ++ x ∷ []) k 0 ≡ get_or xs k 0
@@ -41,22 +41,56 @@ most_more xs x m is = record { above = above; reached = reached (cases_lt m x) i
     reached (inr le) (inl none) = inl (omega arith)
     reached (inr le) (inr at) = inr (at.0, omega (arith, length_more xs x, at.1), omega (arith, at_old xs x at.0 at.1, at.2))
 
+-- with one place more
+pub most_of_places : (depths places : List ℕ) (i m depth : ℕ) → i < length places → depth ≡ get_or depths (get_or places i 0) 0
+    → IsMost (depths_at depths (take i places)) m → IsMost (depths_at depths (take (i + 1) places)) (max m depth)
+most_of_places depths places i m depth w e is =
+    let known : ℕ → ℕ = λ (p : ℕ). get_or depths p 0 in
+    let more : map known (take (i + 1) places) ≡ map known (take i places) ++ known (get_or places i 0) ∷ [] =
+    ap (map known) (take_at_read places i 0 w).1 ∙ map-append known (take i places) (get_or places i 0 ∷ []) in
+    subst (λ (xs : List ℕ). IsMost xs (max m depth)) (sym more) (subst (λ (d : ℕ). IsMost (map known (take i places) ++ d ∷ []) (max m depth)) e (most_more (map known (take i places)) depth m is))
+
+-- depths that are no more than there are
+pub known_bounded : (depths : List ℕ) (p : ℕ) → All (λ d. d ≤ length depths) depths → get_or depths p 0 ≤ length depths
+known_bounded depths p all = elim (cases_lt p (length depths)) [
+  | inl lt ↦ all p 0 lt
+  | inr past ↦ omega (arith, get_or_past depths p 0 past)
+]
+
+pub none_bounded : All (λ (d : ℕ). d ≤ 0) []
+none_bounded k d w = absurd (omega arith)
+
+pub bounded_more : (depths new : List ℕ) (m : ℕ) → new ≡ depths ++ (m + 1) ∷ [] → All (λ d. d ≤ length depths) depths → m ≤ length depths
+    → All (λ d. d ≤ length new) new
+bounded_more depths new m e all w =
+    subst (λ (xs : List ℕ). All (λ (d : ℕ). d ≤ length xs) xs) (sym e) (λ k d h. elim (cases_more k (length depths) (omega (arith, length_more depths (m + 1)))) [
+      | inl lt ↦ omega (arith, all k d lt, get_or_append_left depths ((m + 1) ∷ []) d k lt, length_more depths (m + 1))
+      | inr e ↦ omega (arith, last k d e, length_more depths (m + 1))
+    ])
+  where
+    last : (k d : ℕ) → k ≡ length depths → get_or (depths ++ (m + 1) ∷ []) k d ≡ m + 1
+    last k d e = subst (λ (j : ℕ). get_or (depths ++ (m + 1) ∷ []) j d ≡ m + 1) (sym e) (get_or-append_seam depths (m + 1) [] d)
+
 pub most_none : IsMost [] 0
 most_none = record { above = λ k w. absurd (omega arith); reached = inl refl }
 
-pub most_exists : (xs : List ℕ) → (m : ℕ) × IsMost xs m
-most_exists [] = (0, most_none)
-most_exists (x ∷ xs) = (max x (most_exists xs).0, record { above = above; reached = reached (cases_lt x (most_exists xs).0) (most_exists xs).1.reached })
+-- with one more in front
+most_before : (x : ℕ) (xs : List ℕ) (m : ℕ) → IsMost xs m → IsMost (x ∷ xs) (max x m)
+most_before x xs m is = record { above = above; reached = reached (cases_lt x m) is.reached }
   where
-    above : (k : ℕ) → k < length (x ∷ xs) → get_or (x ∷ xs) k 0 ≤ max x (most_exists xs).0
+    above : (k : ℕ) → k < length (x ∷ xs) → get_or (x ∷ xs) k 0 ≤ max x m
     above zero w = omega arith
-    above (suc k) w = omega (arith, (most_exists xs).1.above k (omega arith))
+    above (suc k) w = omega (arith, is.above k (omega arith))
 
-    reached : (x < (most_exists xs).0) ⊎ ((most_exists xs).0 ≤ x) → ((most_exists xs).0 ≡ 0) ⊎ ((k : ℕ) × (k < length xs) × (get_or xs k 0 ≡ (most_exists xs).0))
-        → (max x (most_exists xs).0 ≡ 0) ⊎ ((k : ℕ) × (k < length (x ∷ xs)) × (get_or (x ∷ xs) k 0 ≡ max x (most_exists xs).0))
+    reached : (x < m) ⊎ (m ≤ x) → (m ≡ 0) ⊎ ((k : ℕ) × (k < length xs) × (get_or xs k 0 ≡ m))
+        → (max x m ≡ 0) ⊎ ((k : ℕ) × (k < length (x ∷ xs)) × (get_or (x ∷ xs) k 0 ≡ max x m))
     reached (inr le) was = inr (0, omega arith, omega arith)
     reached (inl lt) (inl none) = absurd (omega arith)
     reached (inl lt) (inr at) = inr (suc at.0, omega (arith, at.1), omega (arith, at.2))
+
+pub most_exists : (xs : List ℕ) → (m : ℕ) × IsMost xs m
+most_exists [] = (0, most_none)
+most_exists (x ∷ xs) = let rest = most_exists xs in (max x rest.0, most_before x xs rest.0 rest.1)
 
 -- ---- chains
 
@@ -117,6 +151,14 @@ module _ (needs : List (List ℕ)) (depths : List ℕ) (are : AreDepths needs de
     | inl lt ↦ subst (IsDepthAt needs k) (sym (at_old depths d k lt)) (are k lt)
     | inr e ↦ subst (IsDepthAt needs k) (sym (at_new depths d k e)) (subst (λ (j : ℕ). IsDepthAt needs j d) (sym e) at)
   ]
+
+-- the depth of a task behind the others
+pub depths_more : (needs : List (List ℕ)) (depths new places : List ℕ) (i m : ℕ) → new ≡ depths ++ (m + 1) ∷ [] → length depths ≡ i → i < length needs
+    → get_or needs i [] ≡ places → IsMost (depths_at depths places) m → AreDepths needs depths → AreDepths needs new
+depths_more needs depths new places i m e counted within made is are =
+    let here : get_or needs (length depths) [] ≡ places = ap (λ (j : ℕ). get_or needs j []) counted ∙ made in
+    let next = next_depth needs depths are m (omega arith) (subst (λ (ps : List ℕ). IsMost (depths_at depths ps) m) (sym here) is) in
+    subst (AreDepths needs) (sym e) (with_depth needs depths are (m + 1) next)
 
 -- ---- all tasks
 

@@ -40,10 +40,13 @@ pub record IsStats (calls : List Shown) (s : Stats) : Type 0 where
   pub renamed : s.renamed ≡ sum_by (λ c. count_by (λ is. is) c.renamed) calls
   pub depth : IsDepth (map (λ c. c.producers) calls) s.depth
 
+abbrev pub sums_words : (reads writes pieces : ℕ) → List ℕ
+sums_words reads writes pieces = codes "reads " ++ decimal reads ++ codes " writes " ++ decimal writes ++ codes " pieces " ++ decimal pieces
+
 abbrev pub stats_line : Stats → List ℕ
 stats_line s =
-    codes "stats tasks " ++ decimal s.tasks ++ codes " reads " ++ decimal s.reads ++ codes " writes " ++ decimal s.writes
-    ++ codes " pieces " ++ decimal s.pieces ++ codes " renamed " ++ decimal s.renamed ++ codes " depth " ++ decimal s.depth ++ codes "\n"
+    codes "stats tasks " ++ decimal s.tasks ++ codes " " ++ sums_words s.reads s.writes s.pieces
+    ++ codes " renamed " ++ decimal s.renamed ++ codes " depth " ++ decimal s.depth ++ codes "\n"
 
 -- The line of the calls.
 pub record IsStatsLine (calls : List Shown) (line : List ℕ) : Type 0 where

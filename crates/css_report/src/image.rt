@@ -49,12 +49,10 @@ fn place_text(alloc: Global, head: &ImageHead) -> Result<String, NoMemory>
     ensures { IfOk result (λ text. string_bytes text ≡ place_words head.now) }
 {
     let line = head.line.number();
+    let address = head.address;
     match head.kind {
         ImageKind::Barrier => Ok(format!(in alloc; "barrier line {line}")?),
         ImageKind::Finish => Ok(format!(in alloc; "finish line {line}")?),
-        ImageKind::Wait => {
-            let address = head.address;
-            Ok(format!(in alloc; "wait line {line} address {address}")?)
-        }
+        ImageKind::Wait => Ok(format!(in alloc; "wait line {line} address {address}")?),
     }
 }

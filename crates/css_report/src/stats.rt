@@ -1,7 +1,7 @@
 //! The line of the numbers of some calls.
-ghost use Rattle.std.specs.Prelude.{◌≡◌, IfOk, sum_by, count_by, slice_get};
+ghost use Rattle.std.specs.Prelude.{◌≡◌, IfOk, sum_by, count_by, slice_get, string_bytes};
 ghost use Rattle.css_report.specs.Calls.{shown, parts_of};
-ghost use Rattle.css_report.specs.Stats.{IsStatsLine, bytes_read, bytes_written, pieces_moved};
+ghost use Rattle.css_report.specs.Stats.{IsStatsLine, bytes_read, bytes_written, pieces_moved, sums_words};
 ghost use Rattle.css_vm.specs.Code.{code_of};
 
 use crate::calls::CallList;
@@ -19,13 +19,19 @@ pub fn stats_line(alloc: Global, value: &CallList<'_>) -> Result<Vec<u8>, NoMemo
 {
     let tasks = value.calls.len();
     let counts = counts_of(value)?;
-    let (reads, writes, pieces) = (counts.reads, counts.writes, counts.pieces);
+    let sums = sums_text(alloc, counts)?;
     let renamed = renamed_of(value.calls)?;
     let depth = depth_of(alloc, value.calls)?;
-    let line = format!(in alloc;
-        "stats tasks {tasks} reads {reads} writes {writes} pieces {pieces} renamed {renamed} depth {depth}\n"
-    )?;
+    let line = format!(in alloc; "stats tasks {tasks} {sums} renamed {renamed} depth {depth}\n")?;
     Ok(line.into_bytes())
+}
+
+/// What is counted of windows, in words.
+fn sums_text(alloc: Global, counts: Counts) -> Result<String, NoMemory>
+    ensures { IfOk result (λ text. string_bytes text ≡ sums_words counts.reads counts.writes counts.pieces) }
+{
+    let (reads, writes, pieces) = (counts.reads, counts.writes, counts.pieces);
+    Ok(format!(in alloc; "reads {reads} writes {writes} pieces {pieces}")?)
 }
 
 /// What is counted of all windows.
