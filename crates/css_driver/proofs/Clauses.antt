@@ -4,7 +4,8 @@ use Rattle.std.specs.Prelude.{IfSome}
 use Rattle.css_base.specs.declared.static_fault.StaticFault.{StaticFault}
 use Rattle.css_words.specs.declared.request.Request.{Request}
 use Rattle.css_driver.specs.Request.{Offer, Asks, AreRefused}
-use Rattle.css_driver.specs.Answer.{Answer, IsRefusedBy, IsTextAnswer, Refused, Given, IsAnswer, WordsRefused, Asked, words_refused, read_fault, static_line, refusal}
+use Rattle.css_report.specs.Endings.{static_line}
+use Rattle.css_driver.specs.Answer.{Answer, IsRefusedBy, IsTextAnswer, Refused, Given, IsAnswer, WordsRefused, Asked, words_refused, read_fault, refusal}
 use Rattle.css_io.specs.Changes.{Change, HasFailed, Got, GotPrefix}
 use Rattle.css_driver.specs.Ends.{IsCut, OutFailed, ReportFailed, NoMemoryFailed, Whole, Cut, Starved, Finishes, Written, CutLine, IsText, ShelfFailed, CallEnds, Answered, Unread, Unheard, IsWhole, IsCutShort, InAnswer, InReadFault, InNoMemory, IsStarved, IsSmooth}
 use Rattle.css_driver.proofs.Commands.{given_status}

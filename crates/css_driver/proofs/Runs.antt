@@ -13,7 +13,8 @@ use Rattle.css_small.specs.Tree.{Program}
 use Rattle.css_small.specs.Numbers.{HasNumbers}
 use Rattle.css_small_code.specs.Meaning.{source}
 use Rattle.css_small_code.specs.Correct.{Codes}
-use Rattle.css_driver.specs.Answer.{Answer, IsRunAnswer, ending_of, ending_line, ending_status, no_memory}
+use Rattle.css_report.specs.Endings.{ending_line}
+use Rattle.css_driver.specs.Answer.{Answer, IsRunAnswer, ending_of, ending_status, no_memory}
 use Rattle.css_io.specs.Changes.{Change, Got, GotPrefix}
 use Rattle.css_driver.specs.Ends as ways
 use Rattle.css_driver.specs.Running.{halted, ComesTo}

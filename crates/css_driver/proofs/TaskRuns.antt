@@ -14,7 +14,8 @@ use Rattle.css_io.specs.Changes.{Change, Got, GotPrefix}
 use Rattle.css_main_side.specs.Plain.{IsPlainShape, HasPlainTasks}
 use Rattle.css_main_side.specs.Playing.{begins, ComesToVerdict}
 use Rattle.css_main_side.proofs.Sinks.{AppendsPrefix-whole}
-use Rattle.css_driver.specs.Answer.{Answer, HasVerdict, IsTaskAnswer, ending_line, ending_status, no_memory}
+use Rattle.css_report.specs.Endings.{ending_line}
+use Rattle.css_driver.specs.Answer.{Answer, HasVerdict, IsTaskAnswer, ending_status, no_memory}
 use Rattle.css_driver.specs.Ends as ways
 use Rattle.css_driver.proofs.Endings.{ends_answer, ends_no_memory}
 use Rattle.css_driver.proofs.Runs.{IsRunStatus, ending_statuses, answer_of_parts, answer_from}

@@ -10,7 +10,8 @@ use Rattle.css_main_side.proofs.Sinks.{Appends-nothing, AppendsPrefix-nothing}
 use Rattle.css_words.specs.declared.command.Command.{Command}
 use Rattle.css_words.specs.declared.request.Request.{Request}
 use Rattle.css_driver.specs.Request.{Offer, Asks, AreRefused}
-use Rattle.css_driver.specs.Answer.{Answer, IsProgramAnswer, IsTextAnswer, Refused, Given, IsAnswer, WordsRefused, Asked, IsRefusedBy, refusal, too_long, static_line, words_refused, no_memory}
+use Rattle.css_report.specs.Endings.{static_line}
+use Rattle.css_driver.specs.Answer.{Answer, IsProgramAnswer, IsTextAnswer, Refused, Given, IsAnswer, WordsRefused, Asked, IsRefusedBy, refusal, too_long, words_refused, no_memory}
 use Rattle.css_driver.specs.Ends.{Ends, Finishes, IsText, CallEnds, Answered}
 use Rattle.css_driver.proofs.Commands.{long_refused_by}
 use Rattle.css_driver.proofs.Endings.{Ends-map, ends_answer, ends_no_memory}

@@ -1,17 +1,13 @@
 -- What the program answers: a definition for all words and files.
-use Rattle.std.specs.Prelude.{◌≡◌, ℕ, zero, ℤ, pos, ◌≤◌, ◌<◌, ◌⊎◌, List, [], ◌++◌, length, codes, Option, Some, None}
-use Rattle.std.specs.Fmt.{decimal, signed_decimal}
+use Rattle.std.specs.Prelude.{◌≡◌, ℕ, zero, ℤ, pos, ◌≤◌, ◌<◌, ◌⊎◌, List, [], length, codes, Option, Some, None}
 use Rattle.css_base.specs.declared.static_fault.StaticFault.{StaticFault}
-use Rattle.css_base.specs.declared.static_fault.StaticName.{StaticName}
 use Rattle.css_base.specs.declared.static_fault.StaticName.TheVariants as names
 use Rattle.css_base.specs.declared.ending.Ending.{Ending}
 use Rattle.css_base.specs.declared.ending.Ending.TheVariants as endings
 use Rattle.css_base.specs.declared.ending.Stop.{Stop}
 use Rattle.css_base.specs.declared.ending.Stop.TheVariants as stops
-use Rattle.css_base.specs.declared.ending.Who.{Who}
 use Rattle.css_base.specs.declared.ending.Who.TheVariants as whose
 use Rattle.css_base.specs.declared.limits.Limits.{Limits}
-use Rattle.css_base.specs.Labels.{static_label, rule_label, fault_label}
 use Rattle.css_semantics.specs.Dialogue.{Outcome, Goes, Stops, Stopped, Tired, tape_of, output}
 use Rattle.css_semantics.specs.Flat.{flat}
 use Rattle.css_main_side.specs.Playing.{begins}
@@ -24,6 +20,7 @@ use Rattle.css_small_code.specs.Meaning.{source}
 use Rattle.css_words.specs.declared.command.Command.{Command}
 use Rattle.css_words.specs.declared.command.Command.TheVariants.{Check, Erased, Run}
 use Rattle.css_words.specs.declared.request.Request.{Request}
+use Rattle.css_report.specs.Endings.{ending_line, static_line}
 use Rattle.css_driver.specs.Request.{Offer, Asks, AreRefused}
 
 -- The bytes of standard output and of the report, and the status.
@@ -40,24 +37,6 @@ read_fault = codes "read fault\n"
 
 abbrev pub no_memory : List ℕ
 no_memory = codes "no memory\n"
-
--- The report of a static rule that is broken, in a line.
-abbrev pub static_line : StaticName → ℕ → List ℕ
-static_line name line = codes "static " ++ static_label name ++ codes " line " ++ decimal line ++ codes "\n"
-
--- Whose event a stop is.
-abbrev pub who_words : Who → List ℕ
-who_words whose.Main = codes "main"
-who_words (whose.Task number) = codes "task " ++ decimal number
-
-abbrev pub stop_words : Stop → List ℕ
-stop_words (stops.Fault kind) = codes "fault " ++ fault_label kind
-stop_words (stops.Rule rule) = codes "rule " ++ rule_label rule
-
--- The report of an ending.
-abbrev pub ending_line : Ending → List ℕ
-ending_line (endings.Result result) = codes "result " ++ signed_decimal result ++ codes "\n"
-ending_line (endings.Stopped s line w) = stop_words s ++ codes " line " ++ decimal line ++ codes " " ++ who_words w ++ codes "\n"
 
 abbrev pub stop_status : Stop → ℕ
 stop_status (stops.Fault kind) = 4

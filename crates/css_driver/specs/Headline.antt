@@ -12,7 +12,8 @@ use Rattle.css_small_code.specs.Meaning.{source}
 use Rattle.css_semantics.specs.Plain.{entries}
 use Rattle.css_semantics.specs.Erased.{IsPassed, Answers}
 use Rattle.css_semantics.specs.Points.{points, erased_image}
-use Rattle.css_driver.specs.Answer.{Answer, ending_line, ending_status}
+use Rattle.css_report.specs.Endings.{ending_line}
+use Rattle.css_driver.specs.Answer.{Answer, ending_status}
 
 -- The answer is a verdict's: its output, and its ending's report and status. The text without its directives spells a program. With each
 -- number of units that is at least the entries on the verdict's tape, and each fuel that is at least the verdict's, that program in a

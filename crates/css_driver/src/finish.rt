@@ -1,12 +1,14 @@
 //! The last line of a report, and the statuses.
 ghost use Rattle.std.specs.Prelude.{◌⊎◌};
 ghost use Rattle.css_io.specs.Changes.{change};
-ghost use Rattle.css_driver.specs.Answer.{ending_line, ending_status, no_memory, static_line};
+ghost use Rattle.css_report.specs.Endings.{ending_line, static_line};
+ghost use Rattle.css_driver.specs.Answer.{ending_status, no_memory};
 ghost use Rattle.css_driver.specs.Ends.{Finishes};
 
-use crate::ending::{ending_status, ending_text, static_text};
+use crate::ending::ending_status;
 use css_base::{Ending, StaticFault};
 use css_io::{Sink, write_all};
+use css_report::{ending_line, static_line};
 use std::alloc::Global;
 
 /// The line for a text that is accepted.
@@ -53,8 +55,8 @@ pub(crate) fn refuse<R: Sink>(alloc: Global, fault: &StaticFault, report: &mut R
     ensures { Finishes (change R.written R.faults report.old report.new) (static_line fault.now.name fault.now.line) 3 result
         ⊎ Finishes (change R.written R.faults report.old report.new) no_memory 8 result }
 {
-    match static_text(alloc, fault) {
-        Ok(line) => finish(report, line.as_bytes(), STATIC_STATUS),
+    match static_line(alloc, fault) {
+        Ok(line) => finish(report, &line, STATIC_STATUS),
         Err(_) => finish(report, NO_MEMORY, NO_MEMORY_STATUS),
     }
 }
@@ -64,8 +66,8 @@ pub(crate) fn end<R: Sink>(alloc: Global, ending: &Ending, report: &mut R) -> u8
     ensures { Finishes (change R.written R.faults report.old report.new) (ending_line ending.now) (ending_status ending.now) result
         ⊎ Finishes (change R.written R.faults report.old report.new) no_memory 8 result }
 {
-    match ending_text(alloc, ending) {
-        Ok(line) => finish(report, line.as_bytes(), ending_status(ending)),
+    match ending_line(alloc, ending) {
+        Ok(line) => finish(report, &line, ending_status(ending)),
         Err(_) => finish(report, NO_MEMORY, NO_MEMORY_STATUS),
     }
 }

@@ -3,7 +3,8 @@ ghost use Rattle.std.specs.Prelude.{◌≡◌, ◌<◌, ◌≤◌, ◌⊎◌, �
 ghost use Rattle.css_base.specs.declared.static_fault.StaticFault.{StaticFault as Fault};
 ghost use Rattle.css_io.specs.Changes.{change, HasFailed, Got};
 ghost use Rattle.css_words.specs.declared.request.Request.{Request};
-ghost use Rattle.css_driver.specs.Answer.{Answer, IsRefusedBy, IsTextAnswer, words_refused, read_fault, static_line};
+ghost use Rattle.css_driver.specs.Answer.{Answer, IsRefusedBy, IsTextAnswer, words_refused, read_fault};
+ghost use Rattle.css_report.specs.Endings.{static_line};
 ghost use Rattle.css_driver.specs.Request.{plain, Asks, AreRefused};
 ghost use Rattle.css_driver.specs.Ends.{IsText, IsWhole, IsCutShort, IsStarved, IsSmooth, ShelfFailed, CallEnds};
 

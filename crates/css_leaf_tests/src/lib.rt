@@ -18,4 +18,8 @@ mod place;
 #[cfg(test)]
 mod record;
 #[cfg(test)]
+mod report;
+#[cfg(test)]
+mod traces;
+#[cfg(test)]
 mod words;

@@ -48,7 +48,7 @@ fn is_letter(byte: u8) -> bool
 }
 
 /// Whether a byte is a decimal digit.
-fn is_digit(byte: u8) -> bool
+pub(crate) fn is_digit(byte: u8) -> bool
     ensures { result ≡ is_digit byte }
 {
     b'0' <= byte && byte <= b'9'

@@ -9,7 +9,7 @@ ghost use Rattle.css_traces.specs.Reading.{Gives};
 
 use crate::fault::ReadError;
 use crate::items::Items;
-use crate::name::{Name, is_name};
+use crate::name::{Name, is_digit, is_name};
 use css_base::Line;
 use std::alloc::Global;
 
@@ -17,7 +17,7 @@ use std::alloc::Global;
 fn are_digits(bytes: &[u8]) -> bool
     ensures { result ≡ list_all is_digit bytes.now }
 {
-    bytes.iter().all(|b| b'0' <= *b && *b <= b'9')
+    bytes.iter().all(|b| is_digit(*b))
 }
 
 /// Whether a word is a number in decimal, with no zero in front that isn't needed.

@@ -1,0 +1,4 @@
+pub mod Depths
+pub mod Texts
+pub mod Edges
+pub mod Lines
