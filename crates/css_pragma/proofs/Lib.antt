@@ -1,0 +1,10 @@
+pub mod Exits
+pub mod Lists
+pub mod Depth
+pub mod One
+pub mod Sound
+pub mod Complete
+pub mod Names
+pub mod Gathered
+pub mod Parts
+pub mod Rules
