@@ -1,3 +1,6 @@
 pub mod Bytes
 mod Quotients
 pub mod Walk
+pub mod Growth
+pub mod Following
+pub mod OneStep

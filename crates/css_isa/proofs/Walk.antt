@@ -13,16 +13,16 @@ module _ (R : Relation) (May : Mode → Action → Type 0) (w w' : World) (kept 
   kept_stores address [] arguments line may = kept.goes 0
   kept_stores address (width ∷ parameters) [] line may = kept.goes 0
   kept_stores address (width ∷ parameters) (a ∷ arguments) line may =
-      kept.binds (kept.tells (Store (address % 2 ^ 32) (big_endian_bytes width a)) line (may (address % 2 ^ 32) (big_endian_bytes width a)))
+      kept.binds (kept.asks Plain (Store (address % 2 ^ 32) (big_endian_bytes width a)) line (may (address % 2 ^ 32) (big_endian_bytes width a)))
       (λ r. kept_stores (address + 8) parameters arguments line may)
 
   pub kept_entered : (f : Routine) (arguments : List ℕ) (line : ℕ) → MayEnter May f.frame → R ℕ (entered w f arguments line) (entered w' f arguments line)
   kept_entered f arguments line may =
-      kept.binds (kept.tells (Enter f.frame) line may.enters) (λ base. kept.binds (kept_stores base f.parameters arguments line may.stores) (λ r. kept.goes base))
+      kept.binds (kept.asks Plain (Enter f.frame) line may.enters) (λ base. kept.binds (kept_stores base f.parameters arguments line may.stores) (λ r. kept.goes base))
 
   pub kept_left : (base size : ℕ) (is_task : Bool) (line : ℕ) → May Plain (Leave base size) → May Plain Returns → R ℕ (left w base size is_task line) (left w' base size is_task line)
-  kept_left base size true line leaves returns = kept.binds (kept.tells (Leave base size) line leaves) (λ r. kept.tells Returns line returns)
-  kept_left base size false line leaves returns = kept.binds (kept.tells (Leave base size) line leaves) (λ r. kept.goes 0)
+  kept_left base size true line leaves returns = kept.binds (kept.asks Plain (Leave base size) line leaves) (λ r. kept.asks Plain Returns line returns)
+  kept_left base size false line leaves returns = kept.binds (kept.asks Plain (Leave base size) line leaves) (λ r. kept.goes 0)
 
   module _ (Good : State → Type 0) {A : Type 0} (on on' : State → Tape → Outcome A) (ends ends' : Halt → Tape → Outcome A) (goes_on : (s : State) → Good s → R A (on s) (on' s)) (ends_too : (halt : Halt) → R A (ends halt) (ends' halt)) where
     kept_entering : (function : ℕ) (f : Routine) (is_task : Bool) (arguments : List ℕ) (line : ℕ) (callers : List Caller) → MayEnter May f.frame → ((base : ℕ) → Good (inside function is_task callers base))
@@ -32,7 +32,7 @@ module _ (R : Relation) (May : Mode → Action → Type 0) (w w' : World) (kept 
 
     kept_behind_call : (reply function : ℕ) (f : Routine) (arguments : List ℕ) (line : ℕ) (callers : List Caller) (next : State) → May Plain Returns → MayEnter May f.frame → ((base : ℕ) → Good (inside function true callers base)) → Good next
         → R A (behind_call w on ends reply function f arguments line callers next) (behind_call w' on' ends' reply function f arguments line callers next)
-    kept_behind_call zero function f arguments line callers next returns may good good_next = kept.binds (kept.tells Returns line returns) (λ r. goes_on next good_next)
+    kept_behind_call zero function f arguments line callers next returns may good good_next = kept.binds (kept.asks Plain Returns line returns) (λ r. goes_on next good_next)
     kept_behind_call (suc reply) function f arguments line callers next returns may good good_next = kept_entering function f true arguments line callers may good
 
     -- what one step does
@@ -45,7 +45,7 @@ module _ (R : Relation) (May : Mode → Action → Type 0) (w w' : World) (kept 
     kept_done (Enters function f is_task arguments line callers) good = kept_entering function f is_task arguments line callers good.0 good.1
     kept_done (Leaves base size is_task line next) good = kept.binds (kept_left base size is_task line good.0 good.1) (λ r. goes_on next good.2)
     kept_done (Submits call function f arguments line callers next) good =
-        kept.binds (kept.tells (Calls call) line good.0) (λ r. kept_behind_call r function f arguments line callers next good.1 good.2 good.3 good.4)
+        kept.binds (kept.asks Plain (Calls call) line good.0) (λ r. kept_behind_call r function f arguments line callers next good.1 good.2 good.3 good.4)
     kept_done (Halts halt) good = ends_too halt
 
   module _ (code : Code) (Good : State → Type 0) (closed : IsClosed code May Good) where

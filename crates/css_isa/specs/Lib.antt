@@ -7,4 +7,6 @@ pub mod Roles
 pub mod Steps
 pub mod Machine
 pub mod Soundness
+pub mod Worked
 pub mod Walks
+pub mod Runs

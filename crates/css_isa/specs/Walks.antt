@@ -16,7 +16,6 @@ pub record IsKept (R : Relation) (May : Mode → Action → Type 0) (w w' : Worl
   pub goes : {A : Type 0} (a : A) → R A (Goes a) (Goes a)
   pub binds : {A B : Type 0} {d d' : Tape → Outcome A} {go go' : A → Tape → Outcome B} → R A d d' → ((a : A) → R B (go a) (go' a)) → R B (λ t. then_do (d t) go) (λ t. then_do (d' t) go')
   pub asks : (mode : Mode) (action : Action) (line : ℕ) → May mode action → R ℕ (ask_in w mode action line) (ask_in w' mode action line)
-  pub tells : (action : Action) (line : ℕ) → May Plain action → R ℕ (ask w action line) (ask w' action line)
   pub faults : (A : Type 0) (mode : Mode) (kind : FaultKind) (line : ℕ) → R A (fault_in w mode kind line) (fault_in w' mode kind line)
   pub cases : {A : Type 0} {d d' e e' : Tape → Outcome A} → R A d d' → R A e e' → R A (λ t. if makes_tasks t then d t else e t) (λ t. if makes_tasks t then d' t else e' t)
 

@@ -1,0 +1,28 @@
+//! Laws of the machine's runs. Each is what the contract of an empty function says.
+ghost use Rattle.std.specs.Prelude.{◌≡◌, ◌+◌, ℕ, suc, Bool, IsTrue};
+ghost use Rattle.css_semantics.specs.Dialogue.{World, Tape, then_do};
+ghost use Rattle.css_isa.specs.Code.{Code};
+ghost use Rattle.css_isa.specs.Steps.{State};
+ghost use Rattle.css_isa.specs.Machine.{exec, step, go_on};
+ghost use Rattle.css_isa.specs.Runs.{Extends, Grows, Follows, IsFront};
+
+/// What ends with some steps ends so with more, in every world; what the steps end goes on behind the same tape.
+pub fn more_steps()
+    ensures { (w : World) (code : Code) (steps more : ℕ) (s : State) (tape : Tape) → Extends (exec w code steps s tape) (exec w code (steps + more) s tape) }
+{}
+
+/// A run only adds to the tape.
+pub fn tapes_grow()
+    ensures { (w : World) (code : Code) (steps : ℕ) (s : State) (tape : Tape) → Grows tape (exec w code steps s tape) }
+{}
+
+/// Two worlds of which one replies as the other does, on the tapes that come, make one dialogue of a run, up to where the first refuses.
+pub fn alike_worlds_make_one_dialogue()
+    ensures { (w w' : World) (comes : Tape → Bool) (code : Code) (steps : ℕ) (s : State) (tape : Tape) → Follows w w' (λ t. IsTrue (comes t)) → IsTrue (comes tape)
+        → IsFront (exec w code steps s tape) (exec w' code steps s tape) }
+{}
+
+/// A run takes a step, and goes on where that leads.
+pub fn runs_take_steps()
+    ensures { (w : World) (code : Code) (steps : ℕ) (s : State) (tape : Tape) → exec w code (suc steps) s tape ≡ then_do (step w code s tape) (go_on (exec w code steps)) }
+{}
