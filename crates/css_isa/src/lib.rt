@@ -5,18 +5,19 @@
 mod big_endian;
 mod cells;
 mod code;
-
 mod items;
 pub mod laws;
 mod name;
 mod operands;
+mod roles;
 mod space;
 
 pub use big_endian::{byte_count, number_of, overwrite, write_number};
 pub use code::{
     ArgShape, Code, Conversion, Datum, Function, Instr, Mark, Narrow, Op, ShiftWidth, TaskShape,
 };
-pub use operands::{Asked, Worked, effect};
 pub use items::Items;
 pub use name::{Name, is_name};
+pub use operands::{Asked, Worked, effect};
+pub use roles::{goes_on, needed};
 pub use space::{Space, Width};

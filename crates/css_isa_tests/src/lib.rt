@@ -1,0 +1,7 @@
+//! Tests of the instructions, over the public calls.
+#![tactic(auto)]
+
+#[cfg(test)]
+mod checks;
+#[cfg(test)]
+mod effects;
