@@ -1,0 +1,4 @@
+pub mod Written
+pub mod Below
+pub mod Said
+pub mod LineReading
