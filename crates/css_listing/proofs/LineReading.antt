@@ -99,14 +99,11 @@ with_takes kinds.Out word op e = table_op ops.Out (codes "out") out_word out_wor
 kind_takes : (word : List ℕ) (k : OpKind) → value_in operand_words word ≡ Some k → kind_word k ≡ word
 kind_takes = value_takes kind_word operand_words (refl, (refl, (refl, (refl, (refl, (refl, (refl, (refl, (refl, (refl, (refl, (refl, (refl, tt)))))))))))))
 
+bare_each : AllByRecursion (λ (e : List ℕ × Op). Says e.1 (e.0 ∷ [])) bare_words
+bare_each = ((refl, tt), ((refl, tt), ((refl, tt), ((refl, tt), ((refl, tt), ((refl, tt), ((refl, tt), ((refl, tt), ((refl, tt), ((refl, tt), ((refl, tt), ((refl, tt), ((refl, tt), ((refl, tt), ((refl, tt), ((refl, tt), ((refl, tt), ((refl, tt), ((refl, tt), ((refl, tt), ((refl, tt), ((refl, tt), ((refl, tt), ((refl, tt), ((refl, tt), ((refl, tt), ((refl, tt), ((refl, tt), ((refl, tt), ((refl, tt), ((refl, tt), ((refl, tt), ((refl, tt), tt)))))))))))))))))))))))))))))))))
+
 bare_takes : (word : List ℕ) (op : Op) → value_in bare_words word ≡ Some op → Says op (word ∷ [])
 bare_takes = found_in (λ (word : List ℕ) (op : Op). Says op (word ∷ [])) bare_words bare_each
-  where
-    abbrev Each : Type 0
-    Each = AllByRecursion (λ (e : List ℕ × Op). Says e.1 (e.0 ∷ [])) bare_words
-
-    bare_each : Each
-    bare_each = ((refl, tt), ((refl, tt), ((refl, tt), ((refl, tt), ((refl, tt), ((refl, tt), ((refl, tt), ((refl, tt), ((refl, tt), ((refl, tt), ((refl, tt), ((refl, tt), ((refl, tt), ((refl, tt), ((refl, tt), ((refl, tt), ((refl, tt), ((refl, tt), ((refl, tt), ((refl, tt), ((refl, tt), ((refl, tt), ((refl, tt), ((refl, tt), ((refl, tt), ((refl, tt), ((refl, tt), ((refl, tt), ((refl, tt), ((refl, tt), ((refl, tt), ((refl, tt), ((refl, tt), tt)))))))))))))))))))))))))))))))))
 
 two_takes : (ws : List (List ℕ)) (op : Op) → eqb (length ws) 2 ≡ true → (value_in operand_words (word_at ws 0) >>= λ kind. op_with kind (word_at ws 1)) ≡ Some op → Says op ws
 two_takes ws op two e =
@@ -300,7 +297,9 @@ opens_takes ws line e =
     let t = name_takes (word_at ws 0) a.0 a.1 in
     let u = number_takes (2 ^ 32) (word_at ws 1) b.0 within_32 b.1 in
     let v = widths_takes (drop 2 ws) c.0 c.1 in
-    let whole : a.0 ∷ decimal b.0 ∷ map width_word c.0 ≡ ws = rw (t.0, u.0, v) (sym (first_two ws g.0)) in
+    let whole : a.0 ∷ decimal b.0 ∷ map width_word c.0 ≡ ws =
+    ap (λ (w : List ℕ). w ∷ decimal b.0 ∷ map width_word c.0) t.0
+    ∙ ap₂ (λ (w : List ℕ) (us : List (List ℕ)). word_at ws 0 ∷ w ∷ us) u.0 v ∙ sym (first_two ws g.0) in
     subst (λ (x : ListingLine). Tells x (codes "function" ∷ ws)) (same_Some (lines.Opens a.0 b.0 c.0) line c.2) (ap (λ (us : List (List ℕ)). codes "function" ∷ us) whole, (t.1, u.1))
 
 task_takes : (ws : List (List ℕ)) (line : ListingLine) → task_of ws ≡ Some line → Tells line (codes "task" ∷ ws)

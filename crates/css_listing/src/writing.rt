@@ -45,11 +45,7 @@ fn datum_text(alloc: Global, datum: &Datum) -> Result<String, NoMemory>
 }
 
 /// Writes the lines of functions.
-fn put_functions(
-    alloc: Global,
-    text: &mut Vec<u8>,
-    functions: &[Function],
-) -> Result<(), NoMemory>
+fn put_functions(alloc: Global, text: &mut Vec<u8>, functions: &[Function]) -> Result<(), NoMemory>
     ensures { OnOk result (text.new.items ≡ text.old.items ++ flat_map line_text (flat_map function_lines functions.now)) }
 {
     for function in functions {
