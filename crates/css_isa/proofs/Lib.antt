@@ -4,3 +4,5 @@ pub mod Walk
 pub mod Growth
 pub mod Following
 pub mod OneStep
+pub mod Fitting
+pub mod Onward
