@@ -6,3 +6,4 @@ pub mod Following
 pub mod OneStep
 pub mod Fitting
 pub mod Onward
+pub mod NeverStuck
