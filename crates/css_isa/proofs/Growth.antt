@@ -25,7 +25,7 @@ all_keep (Notifies mode action line next) = (tt, tt)
 all_keep (AtFault mode kind line) = tt
 all_keep (Tests begun other) = (tt, tt)
 all_keep (Enters function f is_task arguments line callers) = (record { enters = tt; stores = λ address bytes. tt }, λ base. tt)
-all_keep (Leaves base size is_task line next) = (tt, tt, tt)
+all_keep (Leaves base size is_task line next) = (tt, (λ e. tt), tt)
 all_keep (Submits call function f arguments line callers next) = (tt, tt, record { enters = tt; stores = λ address bytes. tt }, (λ base. tt), tt)
 all_keep (Halts halt) = tt
 
@@ -88,7 +88,7 @@ more_kept w = record {
   goes = λ a t. (refl, ([], refl));
   binds = λ {d} {d'} {go} {go'} first next t. (extends_then (d t) (d' t) go go' (first t).0 (λ a t'. (next a t').0) (λ a t'. (next a t').1), grows_then (d' t) go' t (first t).1 (λ a t'. (next a t').1));
   asks = λ mode action line may t. (extends_same (ask_in w mode action line t), grows_ask w mode action line t);
-  faults = λ A mode kind line t. (extends_same (fault_in w mode kind line t), grows_fault A w mode kind line t);
+  faults = λ A mode kind line may t. (extends_same (fault_in w mode kind line t), grows_fault A w mode kind line t);
   cases = λ {d} {d'} {e} {e'} first second t. (extends_if (makes_tasks t) (d t) (d' t) (e t) (e' t) (first t).0 (second t).0, grows_if (makes_tasks t) (d' t) (e' t) t (first t).1 (second t).1);
 }
 

@@ -7,3 +7,4 @@ pub mod OneStep
 pub mod Fitting
 pub mod Onward
 pub mod NeverStuck
+pub mod Quiet

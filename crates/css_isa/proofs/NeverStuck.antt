@@ -33,8 +33,8 @@ if_goes : (b : Bool) (o p : Outcome Halt) → Goes_on o → Goes_on p → Goes_o
 if_goes true o p h k = h
 if_goes false o p h k = k
 
-module _ (w : World) (code : Code) (plans : List Plan) (sound : IsSound code plans) where
-  somewhere : (action : Action) (steps : ℕ) (s : State) → IsOnward code plans action steps s → IsSomewhere code plans s
+module _ (code : Code) (plans : List Plan) where
+  pub somewhere : (action : Action) (steps : ℕ) (s : State) → IsOnward code plans action steps s → IsSomewhere code plans s
   somewhere (Enter size) steps s h = (h.0, h.2)
   somewhere Turn steps s h = h
   somewhere (Leave base size) steps s h = (h.0, h.2)
@@ -54,6 +54,7 @@ module _ (w : World) (code : Code) (plans : List Plan) (sound : IsSound code pla
   somewhere (Fault kind) steps s h = (h.0, h.2)
   somewhere (End result) steps s h = (h.0, h.2)
 
+module _ (w : World) (code : Code) (plans : List Plan) (sound : IsSound code plans) where
   module _ (next : State → Tape → Outcome Halt) (goes : (s : State) (t : Tape) → IsSomewhere code plans s → Goes_on (next s t)) where
     call_goes : (reply function : ℕ) (f : Routine) (arguments : List ℕ) (line : ℕ) (callers : List Caller) (s : State) (t : Tape)
         → ((base : ℕ) → IsSomewhere code plans (inside function true callers base)) → IsSomewhere code plans s → Goes_on (behind_call w next Goes reply function f arguments line callers s t)
@@ -62,8 +63,8 @@ module _ (w : World) (code : Code) (plans : List Plan) (sound : IsSound code pla
 
     done_goes : (steps : ℕ) (s : Step) (t : Tape) → LeadsOnward code plans steps s → Goes_on (done w next Goes s t)
     done_goes steps (Moves s) t h = goes s t (h.0, h.2)
-    done_goes steps (Requests mode action line ty s) t h = then_goes (ask_in w mode action line t) _ (λ r t'. goes (pushed (cell_as ty r) s) t' (somewhere action steps (pushed (cell_as ty r) s) (h r)))
-    done_goes steps (Notifies mode action line s) t h = then_goes (ask_in w mode action line t) _ (λ r t'. goes s t' (somewhere action steps s h))
+    done_goes steps (Requests mode action line ty s) t h = then_goes (ask_in w mode action line t) _ (λ r t'. goes (pushed (cell_as ty r) s) t' (somewhere code plans action steps (pushed (cell_as ty r) s) (h r)))
+    done_goes steps (Notifies mode action line s) t h = then_goes (ask_in w mode action line t) _ (λ r t'. goes s t' (somewhere code plans action steps s h))
     done_goes steps (AtFault mode kind line) t h = fault_goes w mode kind line t
     done_goes steps (Tests begun other) t h = if_goes (makes_tasks t) (next begun t) (next other t) (goes begun t (h.0.0, h.0.2)) (goes other t (h.1.0, h.1.2))
     done_goes steps (Enters function f is_task arguments line callers) t h = then_goes (entered w f arguments line t) _ (λ base t'. goes (inside function is_task callers base) t' (h base))

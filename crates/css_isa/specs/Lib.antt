@@ -11,3 +11,4 @@ pub mod Worked
 pub mod Walks
 pub mod Runs
 pub mod Fitting
+pub mod Quiet
