@@ -8,3 +8,4 @@ pub mod Fitting
 pub mod Onward
 pub mod NeverStuck
 pub mod Quiet
+pub mod QuietRuns

@@ -1,6 +1,7 @@
 //! Laws of the machine's runs. Each is what the contract of an empty function says.
 ghost use Rattle.std.specs.Prelude.{◌≡◌, ◌≢◌, ◌≤◌, ◌+◌, ℕ, suc, Bool, IsTrue, List, length};
-ghost use Rattle.css_semantics.specs.Dialogue.{World, Tape, Goes, then_do};
+ghost use Rattle.css_semantics.specs.Dialogue.{World, Tape, Goes, tape_of, then_do};
+ghost use Rattle.css_semantics.specs.Worlds.{AreOfMachine};
 ghost use Rattle.css_isa.specs.Code.{Code};
 ghost use Rattle.css_isa.specs.declared.code.Op.{Op};
 ghost use Rattle.css_isa.specs.Effects.{effect};
@@ -10,6 +11,7 @@ ghost use Rattle.css_isa.specs.Steps.{State, Stuck, step_of};
 ghost use Rattle.css_isa.specs.Soundness.{Plan, IsSound, IsAt, Fits};
 ghost use Rattle.css_isa.specs.Fitting.{IsFitting, LeadsOnward};
 ghost use Rattle.css_isa.specs.Machine.{exec, step, go_on};
+ghost use Rattle.css_isa.specs.Quiet.{IsQuietAt};
 ghost use Rattle.css_isa.specs.Runs.{Extends, Grows, Follows, IsFront};
 
 /// What ends with some steps ends so with more, in every world; what the steps end goes on behind the same tape.
@@ -46,4 +48,10 @@ pub fn sound_steps_lead_onward()
 /// Sound code is never stuck, in any world.
 pub fn sound_code_is_never_stuck()
     ensures { (w : World) (code : Code) (steps : ℕ) (s : State) (tape after : Tape) → Fits code s → exec w code steps s tape ≢ Goes Stuck after }
+{}
+
+/// What a task reaches asks for its memory and its units alone, in every world.
+pub fn tasks_ask_a_machine()
+    ensures { (w : World) (code : Code) (plans : List Plan) (steps : ℕ) (s : State) (tape : Tape) → IsSound code plans → IsQuietAt code plans s → AreOfMachine tape
+        → AreOfMachine (tape_of (exec w code steps s tape)) }
 {}
