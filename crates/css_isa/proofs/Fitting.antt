@@ -1,8 +1,7 @@
 -- Effects have the heights of their roles: the one walk over all instructions.
-use Rattle.std.proofs.Common.{◌≡◌, ℕ, zero, suc, ◌+◌, ◌-◌, ◌<◌, ◌≤◌, Bool, true, false, List, [], ◌∷◌, length, Option, Some, None, slice_get, refl, arith, IsTrue, if◌then◌else◌, nat_eq, bit_and, bit_or, bit_xor}
+use Rattle.std.proofs.Common.{◌≡◌, ℕ, zero, suc, ◌+◌, ◌<◌, ◌≤◌, Bool, true, false, List, [], ◌∷◌, length, Option, Some, None, slice_get, refl, arith, IsTrue, if◌then◌else◌, nat_eq, bit_and, bit_or, bit_xor}
 use Rattle.css_base.specs.declared.int_type.IntType.{IntType}
 use Rattle.css_base.specs.declared.int_type.IntType.TheVariants as types
-use Rattle.css_semantics.specs.Dialogue.{Action}
 use Rattle.css_isa.specs.declared.code.Op.{Op}
 use Rattle.css_isa.specs.declared.code.Op.TheVariants as ops
 use Rattle.css_isa.specs.declared.code.Mark.TheVariants as marks

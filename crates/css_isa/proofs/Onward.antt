@@ -1,20 +1,18 @@
 -- The steps of sound code lead to places of its plans, and it is never stuck.
-use Rattle.std.proofs.Common.{◌≡◌, ◌≢◌, ◌∙◌, ℕ, zero, suc, ◌+◌, ◌-◌, ◌<◌, ◌≤◌, Bool, true, false, IsTrue, List, [], ◌∷◌, length, take, drop, reverse, Option, Some, None, slice_get, nat_le, nat_eq, if◌then◌else◌, refl, sym, ap, subst, arith}
+use Rattle.std.proofs.Common.{◌≡◌, ◌∙◌, ℕ, suc, ◌+◌, ◌-◌, ◌≤◌, Bool, true, false, IsTrue, List, [], ◌∷◌, length, take, drop, reverse, Option, Some, slice_get, nat_eq, if◌then◌else◌, refl, sym, ap, subst, arith}
 use Rattle.std.proofs.lemmas.Bool.{le-leb}
 use Rattle.std.proofs.lemmas.Option.{same_Some}
 use Rattle.std.proofs.lemmas.List.{length-drop}
-use Rattle.css_base.specs.declared.int_type.IntType.{IntType}
-use Rattle.css_semantics.specs.Dialogue.{Action, Enter, Turn, Leave, Load, Store, Out, In, Malloc, Calls, Returns, Start, Finish, Barrier, Wait, WaitFault, DimFault, Fault, End, Mode, Plain}
-use Rattle.css_isa.specs.declared.code.Instr.{Instr}
+use Rattle.css_semantics.specs.Dialogue.{Action, Enter, Turn, Leave, Load, Store, Out, In, Malloc, Calls, Returns, Start, Finish, Barrier, Wait, WaitFault, DimFault, Fault, End, Mode}
 use Rattle.css_isa.specs.declared.code.Op.{Op}
 use Rattle.css_isa.specs.Code.{Routine, Shape, Code, all_dimensions, call_of}
 use Rattle.css_isa.specs.Cells.{cell_as}
 use Rattle.css_isa.specs.Effects.{Effect, effect, Gives, Asks, Tells, Faults, Lacks}
 use Rattle.css_isa.specs.Roles.{Role, Straight, Turning, Outward, Telling, Awaiting, Changing, Testing, Jumping, Branching, Calling, Submitting, Returning, role_of}
-use Rattle.css_isa.specs.Steps.{Activation, Caller, State, Begin, At, Halt, Finished, Stuck, Step, Moves, Enters, Submits, Halts, inside, on_top, on_many, on_function, on_task, worked, waiting, calling, submitting, returning, act, at_instr, step_of}
+use Rattle.css_isa.specs.Steps.{Activation, Caller, State, Begin, At, Step, Moves, Enters, Submits, inside, on_top, on_many, on_function, on_task, worked, waiting, calling, submitting, returning, act, at_instr, step_of}
 use Rattle.css_isa.specs.Worked.{leads_next, needed_at}
 use Rattle.css_isa.specs.Soundness.{Spot, Plan, spot_at, arguments_taken, dimensions_of_task, dimensions_taken, Stays, Leads, cells_needed, AreNamed, LeadsOn, IsSound, AreCallers, IsAt}
-use Rattle.css_isa.specs.Fitting.{MayAsk, cells_behind, MayBeSilent, IsFitting, IsSomewhere, IsNearer, IsOnward, LeadsOnward}
+use Rattle.css_isa.specs.Fitting.{cells_behind, IsFitting, IsSomewhere, IsNearer, IsOnward, LeadsOnward}
 use Rattle.css_isa.proofs.Fitting.{effect_fits}
 
 module _ (code : Code) (plans : List Plan) (sound : IsSound code plans) where

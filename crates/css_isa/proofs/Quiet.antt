@@ -1,8 +1,7 @@
 -- What a task reaches asks for its memory and its units alone.
-use Rattle.std.proofs.Common.{◌≡◌, ◌∙◌, ℕ, zero, suc, ◌+◌, ◌≤◌, Bool, true, false, ◌||◌, IsTrue, List, [], ◌∷◌, ◌++◌, length, take, drop, reverse, Contains, Option, Some, None, slice_get, nat_le, nat_eq, if◌then◌else◌, refl, sym, ap, subst, arith}
+use Rattle.std.proofs.Common.{◌≡◌, ◌∙◌, ℕ, ◌+◌, ◌≤◌, Bool, true, false, ◌||◌, IsTrue, List, [], ◌∷◌, length, take, drop, reverse, Contains, Option, Some, None, slice_get, nat_le, nat_eq, if◌then◌else◌, refl, sym, ap, subst}
 use Rattle.std.proofs.lemmas.Option.{slice_get_within, get_or_from_slice_get, same_Some}
-use Rattle.css_base.specs.declared.ending.FaultKind.{FaultKind}
-use Rattle.css_semantics.specs.Dialogue.{Action, Enter, Turn, Leave, Load, Store, Out, In, Malloc, Calls, Returns, Start, Finish, Barrier, Wait, WaitFault, DimFault, Fault, End, Mode, Plain}
+use Rattle.css_semantics.specs.Dialogue.{Action, Enter, Turn, Leave, Load, Store, Out, In, Malloc, Calls, Returns, Start, Finish, Barrier, Wait, WaitFault, DimFault, Fault, End, Plain}
 use Rattle.css_semantics.specs.Worlds.{is_of_machine, is_fault}
 use Rattle.css_semantics.proofs.TaskBytes.{all_at}
 use Rattle.css_isa.specs.declared.code.Instr.{Instr}
@@ -13,10 +12,10 @@ use Rattle.css_isa.specs.Code.{Routine, Code}
 use Rattle.css_isa.specs.Cells.{cell_as}
 use Rattle.css_isa.specs.Effects.{Effect, effect, Gives, Asks, Tells, Faults, Lacks}
 use Rattle.css_isa.specs.Roles.{Role, Straight, Turning, Outward, Telling, Awaiting, Changing, Testing, Jumping, Branching, Calling, Submitting, Returning, role_of}
-use Rattle.css_isa.specs.Steps.{Activation, Caller, State, Begin, At, Halt, Finished, Stuck, Step, Moves, Requests, Notifies, Fails, Tests, Enters, Leaves, Submits, Halts, inside, pushed, on_top, on_many, on_function, worked, waiting, calling, returning, act, at_instr, step_of}
+use Rattle.css_isa.specs.Steps.{Activation, Caller, State, Begin, At, Stuck, Step, Moves, Requests, Notifies, Fails, Tests, Enters, Leaves, Submits, Halts, pushed, on_top, on_many, on_function, worked, waiting, calling, returning, act, step_of}
 use Rattle.css_isa.specs.Worked.{leads_next, needed_at}
-use Rattle.css_isa.specs.Soundness.{Plan, spot_at, cells_needed, IsSound, IsReached, Called, MakesNoEvent, IsQuiet, IsAt}
-use Rattle.css_isa.specs.Fitting.{MayAsk, IsFitting, IsSomewhere, IsOnward, LeadsOnward}
+use Rattle.css_isa.specs.Soundness.{Plan, spot_at, cells_needed, IsSound, IsReached, Called, MakesNoEvent, IsQuiet}
+use Rattle.css_isa.specs.Fitting.{MayAsk, IsFitting, LeadsOnward}
 use Rattle.css_isa.specs.Walks.{MayEnter, Keeps, IsClosed}
 use Rattle.css_isa.specs.Quiet.{MayTask, IsQuietActivation, AreQuietCallers, IsQuietState, IsQuietAt}
 use Rattle.css_isa.proofs.Fitting.{effect_fits}

@@ -1,11 +1,11 @@
 -- What steps of sound code come to: effects have the heights of their roles, and steps lead to places of the plans.
-use Rattle.std.specs.Prelude.{◌≡◌, ℕ, suc, ◌+◌, ◌-◌, ◌<◌, true, List, [], ◌∷◌, length}
-use Rattle.css_semantics.specs.Dialogue.{Action, Enter, Turn, Leave, Load, Store, Out, In, Malloc, Calls, Returns, Start, Finish, Barrier, Wait, WaitFault, DimFault, Fault, End, Plain}
+use Rattle.std.specs.Prelude.{◌≡◌, ℕ, suc, ◌+◌, ◌-◌, ◌<◌, true, List, length}
+use Rattle.css_semantics.specs.Dialogue.{Action, Turn, Load, Store, Out, In, Malloc, Start, Finish, Barrier, Wait}
 use Rattle.css_isa.specs.Cells.{cell_as}
 use Rattle.css_isa.specs.Code.{Code}
 use Rattle.css_isa.specs.Effects.{Effect, Gives, Asks, Tells, Faults, Lacks}
-use Rattle.css_isa.specs.Roles.{Role, Straight, Turning, Outward, Telling, Awaiting, Changing, Testing, Jumping, Branching, Calling, Submitting, Returning}
-use Rattle.css_isa.specs.Steps.{State, Halt, Finished, Stuck, Step, Moves, Requests, Notifies, Fails, Tests, Enters, Leaves, Submits, Halts, inside, pushed}
+use Rattle.css_isa.specs.Roles.{Role, Straight, Turning, Outward, Telling, Awaiting}
+use Rattle.css_isa.specs.Steps.{State, Finished, Stuck, Step, Moves, Requests, Notifies, Fails, Tests, Enters, Leaves, Submits, Halts, inside, pushed}
 use Rattle.css_isa.specs.Soundness.{Plan, IsAt}
 
 -- what the instructions of a role may ask

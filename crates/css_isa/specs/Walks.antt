@@ -1,11 +1,10 @@
 -- What runs of the machine keep: a relation between dialogues that going on, asking and binding keep is kept by whole runs.
-use Rattle.std.specs.Prelude.{◌≡◌, ℕ, Bool, true, Option, if◌then◌else◌}
+use Rattle.std.specs.Prelude.{◌≡◌, ℕ, true, if◌then◌else◌}
 use Rattle.css_base.specs.declared.ending.FaultKind.{FaultKind}
-use Rattle.css_semantics.specs.Dialogue.{Action, Enter, Leave, Store, Calls, Returns, Fault, Tape, World, Outcome, Goes, then_do, Mode, Plain, ask, ask_in, fault_in}
+use Rattle.css_semantics.specs.Dialogue.{Action, Enter, Leave, Store, Calls, Returns, Fault, Tape, World, Outcome, Goes, then_do, Mode, Plain, ask_in, fault_in}
 use Rattle.css_isa.specs.Code.{Code}
 use Rattle.css_isa.specs.Cells.{cell_as}
 use Rattle.css_isa.specs.Steps.{State, Step, Moves, Requests, Notifies, Fails, Tests, Enters, Leaves, Submits, Halts, inside, pushed, makes_tasks, step_of}
-use Rattle.css_base.specs.declared.int_type.IntType.{IntType}
 
 -- a relation of dialogues
 abbrev pub Relation : Type 1

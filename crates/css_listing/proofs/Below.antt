@@ -1,8 +1,8 @@
 -- Which numbers words write, by their digits.
-use Rattle.std.proofs.Common.{◌≡◌, ◌<◌, ◌≤◌, ◌^◌, ℕ, true, false, ◌&&◌, ltb, not, List, Option, Some, None, refl, arith, eqb}
+use Rattle.std.proofs.Common.{◌≡◌, ◌<◌, ◌≤◌, ℕ, true, false, ◌&&◌, ltb, List, Some, None, refl, arith}
 use Rattle.std.specs.Str.Parse.{digits_value}
 use Rattle.std.proofs.lemmas.Bool.{and_from, lt-ltb, cond-true}
-use Rattle.css_traces.specs.Words.{is_plain, number_below, small_of, from_one, line_number_of}
+use Rattle.css_traces.specs.Words.{is_plain, number_below, small_of, line_number_of}
 
 pub below_refused : (limit : ℕ) (word : List ℕ) → is_plain word ≡ false → number_below limit word ≡ None
 unfolding number_below

@@ -1,7 +1,7 @@
 -- A line that is read is the line that was written, and a line that was written is read again.
-use Rattle.std.proofs.Common.{◌≡◌, ◌∙◌, ◌<◌, ◌≤◌, ◌^◌, ℕ, true, false, eqb, leb, ltb, ◌&&◌, ◌||◌, List, [], ◌∷◌, ◌++◌, length, map, drop, get_or, codes, Option, Some, None, refl, sym, ap, ap₂, subst, inl, inr, arith, IsTrue}
+use Rattle.std.proofs.Common.{◌≡◌, ◌∙◌, ◌<◌, ◌^◌, ℕ, true, false, eqb, leb, ltb, ◌&&◌, ◌||◌, List, [], ◌∷◌, ◌++◌, length, map, drop, get_or, codes, Some, refl, sym, ap, ap₂, subst, inl, inr, arith, IsTrue}
 use Rattle.std.specs.List.{list_all, AllByRecursion, join_with_byte, slice_split}
-use Rattle.std.specs.Fmt.{decimal, signed_decimal}
+use Rattle.std.specs.Fmt.{decimal}
 use Rattle.std.proofs.lemmas.Bool.{and_parts, or_cases, leb-true, eqb-true, lt-ltb, ne_eqb, cond-true, cond-false, cases_Bool}
 use Rattle.std.proofs.lemmas.Option.{same_Some}
 use Rattle.std.proofs.lemmas.List.Splits.{join_with_byte-slice_split}
@@ -10,19 +10,12 @@ use Rattle.css_base.specs.declared.direction.Direction.{Direction}
 use Rattle.css_base.specs.declared.direction.Direction.TheVariants as directions
 use Rattle.css_isa.specs.declared.code.Op.{Op}
 use Rattle.css_isa.specs.declared.code.Op.TheVariants as ops
-use Rattle.css_isa.specs.declared.code.Mark.{Mark}
 use Rattle.css_isa.specs.declared.code.Mark.TheVariants as marks
-use Rattle.css_isa.specs.declared.code.ShiftWidth.{ShiftWidth}
 use Rattle.css_isa.specs.declared.code.ShiftWidth.TheVariants as shifts
-use Rattle.css_isa.specs.declared.code.Narrow.{Narrow}
 use Rattle.css_isa.specs.declared.code.Narrow.TheVariants as narrows
-use Rattle.css_isa.specs.declared.code.Conversion.{Conversion}
 use Rattle.css_isa.specs.declared.code.Conversion.TheVariants as conversions
 use Rattle.css_isa.specs.declared.code.ArgShape.{ArgShape}
 use Rattle.css_isa.specs.declared.code.ArgShape.TheVariants as shapes
-use Rattle.css_isa.specs.declared.code.TaskShape.{TaskShape}
-use Rattle.css_isa.specs.declared.code.Instr.{Instr}
-use Rattle.css_isa.specs.declared.code.Datum.{Datum}
 use Rattle.css_isa.specs.declared.space.Width.{Width}
 use Rattle.css_isa.specs.declared.space.Width.TheVariants as widths
 use Rattle.css_isa.specs.Names.{is_letter, is_digit, is_word_byte, is_identifier}
@@ -37,7 +30,7 @@ use Rattle.css_listing.specs.declared.kind.OpKind.{OpKind}
 use Rattle.css_listing.specs.declared.kind.OpKind.TheVariants as kinds
 use Rattle.css_listing.specs.declared.listing_line.ListingLine.{ListingLine}
 use Rattle.css_listing.specs.declared.listing_line.ListingLine.TheVariants as lines
-use Rattle.css_listing.specs.Lines.{shift_word, narrow_word, mark_word, out_word, op_name, op_operand, op_words, direction_word, dims_word, part_word, high_word, width_word, line_words, OpFits, PartFits, LineFits}
+use Rattle.css_listing.specs.Lines.{shift_word, narrow_word, mark_word, out_word, op_words, direction_word, part_word, high_word, width_word, line_words, OpFits, PartFits, LineFits}
 use Rattle.css_listing.specs.Words.{head_words, shift_words, narrow_words, mark_words, out_words, bare_words, operand_words, high_words, signed_of, name_of, bytes_of, op_with, op_of, parts_of, widths_of}
 use Rattle.css_listing.specs.Reading.{head_of, data_of, opens_of, task_of, instr_of, line_by, line_of_words, line_of}
 use Rattle.css_listing.proofs.Said.{one_word, two_words, first_two, found_in, signed_takes, signed_again, solid_signed, bytes_takes, bytes_again, solid_bytes, name_takes, name_again, widths_takes, widths_again, parts_takes, parts_again, high_again}

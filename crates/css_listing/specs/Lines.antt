@@ -18,8 +18,6 @@ use Rattle.css_isa.specs.declared.code.Conversion.TheVariants as conversions
 use Rattle.css_isa.specs.declared.code.ArgShape.{ArgShape}
 use Rattle.css_isa.specs.declared.code.ArgShape.TheVariants as shapes
 use Rattle.css_isa.specs.declared.code.TaskShape.{TaskShape}
-use Rattle.css_isa.specs.declared.code.Instr.{Instr}
-use Rattle.css_isa.specs.declared.code.Datum.{Datum}
 use Rattle.css_isa.specs.declared.code.Function.{Function}
 use Rattle.css_isa.specs.declared.code.Code.{Code}
 use Rattle.css_isa.specs.declared.space.Width.{Width}

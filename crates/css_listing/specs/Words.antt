@@ -1,5 +1,5 @@
 -- What the words of a listing's lines say.
-use Rattle.std.specs.Prelude.{ℕ, ◌+◌, ◌-◌, ◌^◌, ℤ, pos, neg_ℤ, Bool, true, false, ◌&&◌, ◌==◌, nat_lt, List, [], ◌∷◌, codes, drop, length, Option, Some, None, Result, Ok, Err, slice_index, if◌then◌else◌}
+use Rattle.std.specs.Prelude.{ℕ, ◌+◌, ◌^◌, ℤ, pos, neg_ℤ, Bool, true, false, ◌&&◌, ◌==◌, nat_lt, List, [], ◌∷◌, codes, drop, length, Option, Some, None, Result, Ok, Err, slice_index, if◌then◌else◌}
 use Rattle.std.specs.List.{slice_split}
 use Rattle.std.specs.Str.{bytes_eq}
 use Rattle.hex.specs.Hex.{encode_lower, decode_of}
@@ -21,7 +21,7 @@ use Rattle.css_isa.specs.declared.code.ArgShape.TheVariants as shapes
 use Rattle.css_isa.specs.declared.space.Width.{Width}
 use Rattle.css_isa.specs.declared.space.Width.TheVariants as widths
 use Rattle.css_isa.specs.Names.{is_identifier}
-use Rattle.css_traces.specs.Words.{◌>>=◌, value_in, number_below, small_of, line_number_of, word_at}
+use Rattle.css_traces.specs.Words.{◌>>=◌, value_in, number_below, small_of, word_at}
 use Rattle.css_listing.specs.declared.kind.Kind.{Kind}
 use Rattle.css_listing.specs.declared.kind.Kind.TheVariants as heads
 use Rattle.css_listing.specs.declared.kind.OpKind.{OpKind}
