@@ -1,0 +1,14 @@
+pub mod Names
+pub mod Spaces
+pub mod Cells
+pub mod Code
+pub mod Effects
+pub mod Roles
+pub mod Steps
+pub mod Machine
+pub mod Soundness
+pub mod Worked
+pub mod Walks
+pub mod Runs
+pub mod Fitting
+pub mod Quiet
