@@ -5,7 +5,8 @@ use Rattle.css_base.specs.declared.ending.FaultKind.TheVariants.{OutsideMemory}
 use Rattle.css_base.specs.declared.ending.Stop.TheVariants as stops
 use Rattle.css_semantics.specs.Dialogue.{Action, WaitFault, DimFault, Item, item_in, Tape, Reply, Says, Fails, Refuses, World, Outcome, Goes, Stops, Stopped, Tired, then_do, Mode, Plain, Waiting, Measuring, at_fault, fault_in, replied_in, ask_in}
 use Rattle.css_isa.specs.Code.{Code}
-use Rattle.css_isa.specs.Steps.{State, makes_tasks}
+use Rattle.css_isa.specs.Steps.{State}
+use Rattle.css_semantics.specs.Tasks.{makes_tasks}
 use Rattle.css_isa.specs.Machine.{exec}
 use Rattle.css_isa.specs.Walks.{IsKept}
 use Rattle.css_isa.specs.Runs.{Grows, Follows, IsFront}

@@ -4,7 +4,8 @@ use Rattle.css_base.specs.declared.ending.FaultKind.{FaultKind}
 use Rattle.css_base.specs.declared.ending.FaultKind.TheVariants.{OutsideMemory}
 use Rattle.css_semantics.specs.Dialogue.{Action, Fault, WaitFault, DimFault, Item, item, item_in, Tape, Reply, Says, Fails, Refuses, World, Outcome, Goes, Stops, Stopped, Tired, then_do, Mode, Plain, Waiting, Measuring, at_fault, fault_in, replied_in, ask_in}
 use Rattle.css_isa.specs.Code.{Code}
-use Rattle.css_isa.specs.Steps.{State, Halt, Step, Moves, Requests, Notifies, Fails as AtFault, Tests, Enters, Leaves, Submits, Halts, makes_tasks, step_of}
+use Rattle.css_isa.specs.Steps.{State, Halt, Step, Moves, Requests, Notifies, Fails as AtFault, Tests, Enters, Leaves, Submits, Halts, step_of}
+use Rattle.css_semantics.specs.Tasks.{makes_tasks}
 use Rattle.css_isa.specs.Machine.{exec}
 use Rattle.css_isa.specs.Walks.{Relation, IsKept, Keeps, IsClosed}
 use Rattle.css_isa.specs.Runs.{Extends, Grows}

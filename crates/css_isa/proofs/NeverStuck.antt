@@ -4,7 +4,8 @@ use Rattle.css_base.specs.declared.ending.FaultKind.{FaultKind}
 use Rattle.css_semantics.specs.Dialogue.{Action, Enter, Turn, Leave, Load, Store, Out, In, Malloc, Calls, Returns, Start, Finish, Barrier, Wait, WaitFault, DimFault, Fault, End, Item, item_in, Tape, Reply, Says, Fails, Refuses, World, Outcome, Goes, Stops, then_do, Mode, Plain, Waiting, Measuring, at_fault, ask, ask_in, fault_in}
 use Rattle.css_isa.specs.Cells.{cell_as}
 use Rattle.css_isa.specs.Code.{Routine, Code}
-use Rattle.css_isa.specs.Steps.{Caller, State, Halt, Finished, Stuck, Step, Moves, Requests, Notifies, Fails as AtFault, Tests, Enters, Leaves, Submits, Halts, inside, pushed, entered, left, behind_call, done, makes_tasks, step_of}
+use Rattle.css_isa.specs.Steps.{Caller, State, Halt, Finished, Stuck, Step, Moves, Requests, Notifies, Fails as AtFault, Tests, Enters, Leaves, Submits, Halts, inside, pushed, entered, left, behind_call, done, step_of}
+use Rattle.css_semantics.specs.Tasks.{makes_tasks}
 use Rattle.css_isa.specs.Machine.{exec}
 use Rattle.css_isa.specs.Soundness.{Plan, IsSound, Fits}
 use Rattle.css_isa.specs.Fitting.{IsSomewhere, IsOnward, LeadsOnward}

@@ -3,7 +3,8 @@ use Rattle.std.proofs.Common.{◌≡◌, ℕ, zero, suc, Bool, true, false, if�
 use Rattle.css_base.specs.declared.ending.FaultKind.{FaultKind}
 use Rattle.css_semantics.specs.Dialogue.{Calls, Returns, Says, Fails, Refuses, Reply, Item, item_in, WaitFault, DimFault, Tape, World, Outcome, Goes, Stops, then_do, Mode, Plain, Waiting, Measuring, at_fault, ask, ask_in, fault_in}
 use Rattle.css_isa.specs.Code.{Routine}
-use Rattle.css_isa.specs.Steps.{State, Halt, Step, Moves, Requests, Notifies, Fails as AtFault, Tests, Enters, Leaves, Submits, Halts, Caller, inside, entered, left, behind_call, done, makes_tasks}
+use Rattle.css_isa.specs.Steps.{State, Halt, Step, Moves, Requests, Notifies, Fails as AtFault, Tests, Enters, Leaves, Submits, Halts, Caller, inside, entered, left, behind_call, done}
+use Rattle.css_semantics.specs.Tasks.{makes_tasks}
 use Rattle.css_isa.specs.Machine.{After, Ended, On, go_on}
 
 then_assoc : {A B C : Type 0} (o : Outcome A) (f : A → Tape → Outcome B) (g : B → Tape → Outcome C) → then_do o (λ a t. then_do (f a t) g) ≡ then_do (then_do o f) g

@@ -4,7 +4,8 @@ use Rattle.css_base.specs.declared.ending.FaultKind.{FaultKind}
 use Rattle.css_semantics.specs.Dialogue.{Action, Fault, item_in, Tape, Reply, Says, Fails, Refuses, World, Outcome, Goes, Stops, tape_of, then_do, Mode, Plain, fault_in, replied_in, ask_in}
 use Rattle.css_semantics.specs.Worlds.{is_of_machine, is_fault, AreOfMachine}
 use Rattle.css_isa.specs.Code.{Code}
-use Rattle.css_isa.specs.Steps.{State, makes_tasks}
+use Rattle.css_isa.specs.Steps.{State}
+use Rattle.css_semantics.specs.Tasks.{makes_tasks}
 use Rattle.css_isa.specs.Machine.{exec}
 use Rattle.css_isa.specs.Soundness.{Plan, IsSound}
 use Rattle.css_isa.specs.Walks.{IsKept}

@@ -1,10 +1,10 @@
 -- One step of the machine as plain data, before any world is applied; and what a world makes of it.
-use Rattle.std.specs.Prelude.{ℕ, zero, suc, ◌+◌, ◌%◌, ◌^◌, Bool, true, false, ◌&&◌, List, [], ◌∷◌, length, take, drop, reverse, Option, Some, None, is_none, slice_get, nat_eq, nat_le, if◌then◌else◌}
+use Rattle.std.specs.Prelude.{ℕ, zero, suc, ◌+◌, ◌%◌, ◌^◌, Bool, true, false, List, [], ◌∷◌, length, take, drop, reverse, Option, Some, None, slice_get, nat_eq, nat_le, if◌then◌else◌}
 use Rattle.css_base.specs.declared.int_type.IntType.{IntType}
 use Rattle.css_base.specs.declared.ending.FaultKind.{FaultKind}
 use Rattle.css_semantics.specs.Dialogue.{Action, Enter, Leave, Store, Calls, Returns, Call, Tape, World, Outcome, Goes, then_do, Mode, Plain, ask, ask_in, fault_in}
 use Rattle.css_semantics.specs.Memory.{big_endian_bytes}
-use Rattle.css_semantics.specs.Tasks.{is_started, body}
+use Rattle.css_semantics.specs.Tasks.{makes_tasks}
 use Rattle.css_isa.specs.declared.code.Instr.{Instr}
 use Rattle.css_isa.specs.declared.code.Op.{Op}
 use Rattle.css_isa.specs.Code.{Routine, Shape, Code, all_dimensions, call_of}
@@ -159,10 +159,6 @@ step_of code (At a callers place stack) =
     on_function (slice_get code.functions a.function) (λ f. at_instr code (slice_get f.body place) a callers place stack)
 
 -- ---- in a world
-
--- calls of tasks make tasks where that was started, outside of all tasks
-abbrev pub makes_tasks : Tape → Bool
-makes_tasks tape = is_started tape && is_none (body tape)
 
 -- stores a function's arguments at the front of its frame, each in 8 bytes
 abbrev pub stores : World → (address : ℕ) → (parameters arguments : List ℕ) → ℕ → Tape → Outcome ℕ

@@ -4,7 +4,8 @@ use Rattle.css_base.specs.declared.ending.FaultKind.{FaultKind}
 use Rattle.css_semantics.specs.Dialogue.{Action, Enter, Leave, Store, Calls, Returns, Fault, Tape, World, Outcome, Goes, then_do, Mode, Plain, ask_in, fault_in}
 use Rattle.css_isa.specs.Code.{Code}
 use Rattle.css_isa.specs.Cells.{cell_as}
-use Rattle.css_isa.specs.Steps.{State, Step, Moves, Requests, Notifies, Fails, Tests, Enters, Leaves, Submits, Halts, inside, pushed, makes_tasks, step_of}
+use Rattle.css_isa.specs.Steps.{State, Step, Moves, Requests, Notifies, Fails, Tests, Enters, Leaves, Submits, Halts, inside, pushed, step_of}
+use Rattle.css_semantics.specs.Tasks.{makes_tasks}
 
 -- a relation of dialogues
 abbrev pub Relation : Type 1
