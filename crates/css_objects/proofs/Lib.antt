@@ -8,3 +8,4 @@ pub mod Edits
 pub mod Inserts
 pub mod Keeping
 pub mod Taking
+pub mod Stores

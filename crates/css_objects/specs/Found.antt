@@ -31,6 +31,12 @@ pub record IsLastMeeting (windows : List Window) (from to : ℕ) (f : Found) : T
   pub meets : window_meets (window f.window) from to ≡ true
   pub last : (i : ℕ) (w : Window) → slice_get windows i ≡ Some w → w.base < to → i ≤ f.place
 
+-- the window that is found has one, and has the greatest base of those that do
+pub record IsGreatestMeeting (windows : List Window) (from to : ℕ) (f : Found) : Type 0 where
+  pub stands : Stands windows f
+  pub meets : window_meets (window f.window) from to ≡ true
+  pub greatest : Each windows (λ v. window_meets (window v) from to ≡ true → v.base ≤ f.window.base)
+
 -- no window shares a byte with this one
 abbrev pub NoneShares : List Window → Window → Type 0
 NoneShares windows w = Each windows (λ v. share_byte (window w) (window v) ≡ false)

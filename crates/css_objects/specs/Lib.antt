@@ -3,3 +3,5 @@ pub mod Ranges
 pub mod Found
 pub mod Table
 pub mod Seen
+pub mod Stored
+pub mod Arguments

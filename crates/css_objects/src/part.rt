@@ -3,14 +3,14 @@ ghost use Rattle.std.specs.Prelude.{◌≡◌, ◌+◌, ◌<◌, ◌≤◌, ◌&
 ghost use Rattle.std.specs.List.{list_any, remove};
 ghost use Rattle.css_record.specs.Windows as records;
 ghost use Rattle.css_objects.specs.Ordered.{HasNone, IsAscending, IsOfBase, IsSearch};
-ghost use Rattle.css_objects.specs.Found.{Each, AreRows, NoneShares, IsLastSharing, TakesAtMost};
+ghost use Rattle.css_objects.specs.Found.{Each, AreRows, NoneMeets, IsLastMeeting, IsGreatestMeeting, NoneShares, IsLastSharing, TakesAtMost};
 ghost use Rattle.css_objects.specs.Ranges.{window_meets};
 ghost use Rattle.css_objects.specs.Table.{Entry, windows as windows_of, is_written, without, IsBlock};
 ghost use Rattle.css_objects.specs.Seen.{ShowsAt, IsSeen};
 
 use crate::ordered::{Found, Ordered};
 use crate::pending::{Pending, Probe, Version};
-use crate::search::{last_sharing_block, last_sharing_row};
+use crate::search::{last_meeting, last_meeting_block, last_sharing_block, last_sharing_row};
 use crate::steps::Steps;
 use crate::version::Held;
 use crate::window::{meets, same};
@@ -118,6 +118,35 @@ impl Part {
         ensures cost { steps.new ≤ steps.old + length self.now }
     {
         last_sharing_block(&self.windows, window, steps)
+    }
+
+    /// Of windows of one row the last one that has a byte from one address up to another.
+    pub(crate) fn last_row_meeting<L: Ledger>(
+        &self,
+        from: u64,
+        to: u64,
+        steps: &mut Steps<L>,
+    ) -> Option<Found>
+        requires { AreRows (windows_of self.now) }
+        ensures found { MatchOption result (NoneMeets (windows_of self.now) from to) (IsLastMeeting (windows_of self.now) from to) }
+        ensures cost { IsSearch (length self.now) steps.old steps.new }
+    {
+        last_meeting(&self.windows, from, to, steps)
+    }
+
+    /// Of any windows the one of greatest base that has a byte from one address up to another.
+    pub(crate) fn last_block_meeting<L: Ledger>(
+        &self,
+        from: u64,
+        to: u64,
+        steps: &mut Steps<L>,
+    ) -> Option<Found>
+        requires blocks { Each (windows_of self.now) IsBlock }
+        requires some { from < to }
+        ensures found { MatchOption result (NoneMeets (windows_of self.now) from to) (IsGreatestMeeting (windows_of self.now) from to) }
+        ensures cost { steps.new ≤ steps.old + length self.now }
+    {
+        last_meeting_block(&self.windows, from, to, steps)
     }
 
     /// The window of a base.

@@ -1,17 +1,22 @@
 //! The table of pending objects.
 ghost use Rattle.std.specs.Prelude.{filter, false, ◌≡◌, ◌==◌, ◌≢◌, ◌+◌, ◌≤◌, ℕ, not, length, slice_get, Some, MatchOption};
+ghost use Rattle.std.specs.List.{remove};
+ghost use Rattle.css_semantics.specs.Tasks.{is_same_window};
+ghost use Rattle.css_semantics.specs.Pending.{without_stored};
 ghost use Rattle.std.specs.List.{list_any};
 ghost use Rattle.css_semantics.specs.Rules.{share_byte, meets};
 ghost use Rattle.css_record.specs.Windows as records;
-ghost use Rattle.css_objects.specs.Found.{NoneShares, IsLastSharing, TakesAtMost};
-ghost use Rattle.css_objects.specs.Table.{no_objects, all_entries, objects, windows, without};
-ghost use Rattle.css_objects.specs.Seen.{ShowsAt, IsProbe};
+ghost use Rattle.css_objects.specs.Found.{NoneMeets, IsLastMeeting, IsGreatestMeeting, NoneShares, IsLastSharing, TakesAtMost};
+ghost use Rattle.css_objects.specs.Table.{Entry, no_objects, all_entries, objects, windows, is_written, without};
+ghost use Rattle.css_objects.specs.Stored.{IsUntouched, IsTaken};
+ghost use Rattle.css_objects.specs.Seen.{ShowsAt, IsShown, IsProbe};
 
 use crate::ordered::{Found, Ordered};
 use crate::part::Part;
 use crate::pending::{Pending, Probe};
-use crate::search::any_meeting;
+use crate::search::{Place, any_meeting, later};
 use crate::steps::Steps;
+use crate::window::same;
 use css_record::Window;
 use std::alloc::Global;
 use std::marker::Model;
@@ -105,6 +110,82 @@ impl ObjectTable {
             return Some(self.blocks.pending(place - count, window));
         }
         None
+    }
+
+    /// The pending object of a base.
+    pub fn pending_at<L: Ledger>(&self, base: u32, steps: &mut Steps<L>) -> Option<Pending<'_>>
+        ensures answer { MatchOption result (list_any (λ o. o.window.base == base) (objects self.now) ≡ false) (λ p. (p.window.base ≡ base) × IsShown self.now p) }
+        ensures cost { TakesAtMost (length self.now.rows) (length self.now.blocks) 1 steps.old steps.new }
+    {
+        match self.rows.find(base, steps) {
+            Some(f) => return Some(self.rows.pending(f.place, f.window)),
+            None => {}
+        }
+        let found = self.blocks.find(base, steps)?;
+        Some(self.blocks.pending(found.place, found.window))
+    }
+
+    /// Whether a task that reads a window needs its bytes now: it isn't the window of a pending object.
+    pub fn needs_snapshot<L: Ledger>(&self, window: Window, steps: &mut Steps<L>) -> bool
+        requires { records.IsWindow (records.window window) }
+        ensures answer { result ≡ not (list_any (λ o. is_same_window (records.window window) o.window) (objects self.now)) }
+        ensures cost { TakesAtMost (length self.now.rows) (length self.now.blocks) window.rows steps.old steps.new }
+    {
+        match self.pending_at(window.base, steps) {
+            Some(p) => !same(&p.window, &window),
+            None => true,
+        }
+    }
+
+    /// Main stores so many bytes from an address. Of the objects that have one of them, which tasks only read, the one of greatest
+    /// base isn't pending any more, and its window is answered. None where no object has one.
+    pub fn stored<L: Ledger>(
+        &mut self,
+        address: u32,
+        count: u32,
+        steps: &mut Steps<L>,
+    ) -> Option<Window>
+        requires allowed { meets (λ o. o.is_written) (objects self.old) address count ≡ false }
+        ensures taken { MatchOption result (IsUntouched self.old address count self.new) (IsTaken self.old address count self.new) }
+        ensures left { without_stored (objects self.new) address count ≡ without_stored (objects self.old) address count }
+        ensures cost { TakesAtMost (length self.old.rows) (length self.old.blocks) 1 steps.old steps.new }
+    {
+        if count == 0 {
+            return None;
+        }
+        let from = u64::from(address);
+        let to = from + u64::from(count);
+        let row = self.rows.last_row_meeting(from, to, steps);
+        let block = self.blocks.last_block_meeting(from, to, steps);
+        match later(row, block)? {
+            Place::Row(f) => {
+                self.take_row(f);
+                Some(f.window)
+            }
+            Place::Block(f) => {
+                self.take_block(f);
+                Some(f.window)
+            }
+        }
+    }
+
+    // Without an object of one row that tasks only read.
+    fn take_row(&mut self, found: Found)
+        requires stands { slice_get (windows self.old.rows) found.place ≡ Some found.window }
+        requires unwritten { (e : Entry) → slice_get self.old.rows found.place ≡ Some e → is_written e ≡ false }
+        ensures rows { self.new.rows ≡ remove self.old.rows found.place }
+        ensures blocks { self.new.blocks ≡ self.old.blocks }
+    {
+        self.rows.remove(found.place);
+    }
+
+    // Without an object of several rows.
+    fn take_block(&mut self, found: Found)
+        requires stands { slice_get (windows self.old.blocks) found.place ≡ Some found.window }
+        ensures rows { self.new.rows ≡ self.old.rows }
+        ensures blocks { self.new.blocks ≡ remove self.old.blocks found.place }
+    {
+        self.blocks.remove(found.place);
     }
 
     /// No task of an earlier call is waited for any more.
