@@ -9,3 +9,7 @@ pub mod Inserts
 pub mod Keeping
 pub mod Taking
 pub mod Stores
+pub mod Measures
+pub mod Looking
+pub mod Live
+pub mod Snapshots

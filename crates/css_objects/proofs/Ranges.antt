@@ -87,7 +87,7 @@ rows_by (suc rows) base width stride from to (suc i) within below above =
     (rows_by rows (base + stride) width stride from to i (omega arith) (omega (arith, next)) (omega (arith, next)))
 
 -- and the same of the bytes that rows have
-have_gives : (rows base width stride a : ℕ) → rows_have rows base width stride a ≡ true → (i : ℕ) × (i < rows) × (base + i * stride ≤ a) × (a < base + i * stride + width)
+pub have_gives : (rows base width stride a : ℕ) → rows_have rows base width stride a ≡ true → (i : ℕ) × (i < rows) × (base + i * stride ≤ a) × (a < base + i * stride + width)
 have_gives zero base width stride a has = absurd (false≢true has)
 have_gives (suc rows) base width stride a has =
     elim (or_cases (is_between base (base + width) a) (rows_have rows (base + stride) width stride a) has) [
@@ -100,7 +100,7 @@ have_gives (suc rows) base width stride a has =
           (suc found.0, omega (arith, found.1), omega (arith, next, found.2), omega (arith, next, found.3))
     ]
 
-have_by : (rows base width stride a i : ℕ) → i < rows → base + i * stride ≤ a → a < base + i * stride + width → rows_have rows base width stride a ≡ true
+pub have_by : (rows base width stride a i : ℕ) → i < rows → base + i * stride ≤ a → a < base + i * stride + width → rows_have rows base width stride a ≡ true
 have_by zero base width stride a i within above below = absurd (omega arith)
 have_by (suc rows) base width stride a zero within above below =
     or_left (is_between base (base + width) a) (rows_have rows (base + stride) width stride a)

@@ -29,7 +29,7 @@ row_gives w from to one meets =
 pub row_by : (w : coded.Window) (from to : ℕ) → w.rows ≡ 1 → w.base < to → from < w.base + w.width → window_meets (window w) from to ≡ true
 row_by w from to one below above = rows_by w.rows w.base w.width w.stride from to 0 (omega (arith, one)) (omega arith) (omega arith)
 
-same_place : (windows : List coded.Window) (i : ℕ) (v w : coded.Window) → slice_get windows i ≡ Some v → slice_get windows i ≡ Some w → v ≡ w
+pub same_place : (windows : List coded.Window) (i : ℕ) (v w : coded.Window) → slice_get windows i ≡ Some v → slice_get windows i ≡ Some w → v ≡ w
 same_place windows i v w of_v of_w = cc
 
 module _ (windows : List coded.Window) (rows : AreRows windows) (from to : ℕ) where

@@ -1,5 +1,5 @@
 -- What main's stores take out of the table.
-use Rattle.std.proofs.Common.{◌≡◌, ◌≢◌, ℕ, zero, suc, ◌+◌, ◌*◌, ◌<◌, ◌≤◌, Bool, true, false, not, ◌&&◌, ◌||◌, List, [], ◌∷◌, ◌++◌, length, map, filter, slice_get, Option, Some, None, MatchOption, ◌⊎◌, inl, inr, refl, sym, ap, ◌∙◌, subst, All, arith, ◌-◌}
+use Rattle.std.proofs.Common.{◌≡◌, ◌≢◌, ℕ, zero, suc, ◌+◌, ◌*◌, ◌<◌, ◌≤◌, Bool, true, false, not, ◌&&◌, ◌||◌, List, [], ◌∷◌, ◌++◌, length, map, filter, slice_get, Option, Some, None, MatchOption, IfSome, ◌⊎◌, inl, inr, refl, sym, ap, ◌∙◌, subst, All, arith, ◌-◌}
 use Rattle.std.specs.List.{list_any, remove}
 use Rattle.std.proofs.lemmas.List.{length-map}
 use Rattle.std.proofs.lemmas.List.Edits.{remove-append_left, remove-append_right}
@@ -15,7 +15,9 @@ use Rattle.css_objects.specs.Ranges.{window_meets}
 use Rattle.css_objects.specs.Ordered.{IsAscending, Stands}
 use Rattle.css_objects.specs.Found.{Each, AreRows, NoneMeets, IsLastMeeting, IsGreatestMeeting}
 use Rattle.css_objects.specs.Table.{Entry, Table, windows, is_written, object, objects, IsTable}
-use Rattle.css_objects.specs.Stored.{IsUntouched, IsTaken}
+use Rattle.css_objects.specs.declared.search.Place.TheVariants as places
+use Rattle.css_objects.specs.Stored.{IsUntouched, IsTaken, IsLater}
+use Rattle.css_objects.proofs.Tables.{none_of_nothing}
 use Rattle.css_objects.proofs.Ranges.{some_is_range}
 use Rattle.css_objects.proofs.Searches.{base_at}
 use Rattle.css_objects.proofs.Rows.{row_gives, same_place}
@@ -92,7 +94,7 @@ last_is_greatest ws from to f rows last = record {
 
 -- ---- objects that main's store meets
 
-none_any : {X : Type 0} (p : X → Bool) (xs : List X) (i : ℕ) (x : X) → list_any p xs ≡ false → slice_get xs i ≡ Some x → p x ≡ false
+pub none_any : {X : Type 0} (p : X → Bool) (xs : List X) (i : ℕ) (x : X) → list_any p xs ≡ false → slice_get xs i ≡ Some x → p x ≡ false
 none_any p xs i x none at = false_from_ne_true (p x) (λ passes. false≢true (sym none ∙ any_one p xs i x at passes))
 
 module _ (address count : ℕ) (some : 1 ≤ count) (rows blocks : List Entry) (written : List coded.Window) (is : IsTable rows blocks written) where
@@ -190,6 +192,62 @@ module _ (address count : ℕ) (some : 1 ≤ count) (rows blocks : List Entry) (
         taken (length rows + f.place) found.0 f.window new (place_right rows blocks f.place found.0 found.1) found.2 greatest.meets of_rows (λ i v at. greatest.greatest i v at)
         (ap (λ es. es ++ new.blocks) same_rows ∙ ap (λ es. rows ++ es) of_new
         ∙ sym (remove-append_right rows blocks (length rows) (length rows + f.place) refl (omega arith) ∙ ap (λ n. rows ++ remove blocks n) (let e : length rows + f.place - length rows ≡ f.place = omega arith in e)))
+
+    -- what was found
+    module _ (row block : Option Found) (of_row : MatchOption row (NoneMeets (windows rows) address (address + count)) (IsLastMeeting (windows rows) address (address + count)))
+        (of_block : MatchOption block (NoneMeets (windows blocks) address (address + count)) (IsGreatestMeeting (windows blocks) address (address + count))) where
+      pub found_none : (row ≡ None) × (block ≡ None) → IsUntouched t address count t
+      found_none none =
+          untouched
+          (subst (λ (r : Option Found). MatchOption r (NoneMeets (windows rows) address (address + count)) (IsLastMeeting (windows rows) address (address + count))) none.0 of_row)
+          (subst (λ (b : Option Found). MatchOption b (NoneMeets (windows blocks) address (address + count)) (IsGreatestMeeting (windows blocks) address (address + count))) none.1 of_block)
+
+      pub found_row : (f : Found) → IsLater row block (places.Row f) → IsGreatestMeeting (windows rows) address (address + count) f
+      found_row f is_later =
+          last_is_greatest (windows rows) address (address + count) f is.rows_are
+          (subst (λ (r : Option Found). MatchOption r (NoneMeets (windows rows) address (address + count)) (IsLastMeeting (windows rows) address (address + count))) is_later.0 of_row)
+
+      pub found_block : (f : Found) → IsLater row block (places.Block f) → IsGreatestMeeting (windows blocks) address (address + count) f
+      found_block f is_later =
+          subst (λ (b : Option Found). MatchOption b (NoneMeets (windows blocks) address (address + count)) (IsGreatestMeeting (windows blocks) address (address + count))) is_later.0 of_block
+
+      blocks_below : (b : Option Found) (f : Found) → MatchOption b (NoneMeets (windows blocks) address (address + count)) (IsGreatestMeeting (windows blocks) address (address + count))
+          → IfSome b (λ x. x.window.base ≤ f.window.base) → AllBelow blocks f.window.base
+      blocks_below None f none less = none_below blocks f.window.base none
+      blocks_below (Some x) f greatest less = greatest_below blocks x f.window.base greatest less
+
+      rows_below : (r : Option Found) (f : Found) → MatchOption r (NoneMeets (windows rows) address (address + count)) (IsLastMeeting (windows rows) address (address + count))
+          → IfSome r (λ x. x.window.base ≤ f.window.base) → AllBelow rows f.window.base
+      rows_below None f none less = none_below rows f.window.base none
+      rows_below (Some x) f last less = greatest_below rows x f.window.base (last_is_greatest (windows rows) address (address + count) x is.rows_are last) less
+
+      pub found_row_taken : (f : Found) (new : Table) → IsLater row block (places.Row f) → new.rows ≡ remove rows f.place → new.blocks ≡ blocks → IsTaken t address count new f.window
+      found_row_taken f new is_later of_new same = taken_row f new (found_row f is_later) (blocks_below block f of_block is_later.1) of_new same
+
+      pub found_block_taken : (f : Found) (new : Table) → IsLater row block (places.Block f) → new.rows ≡ rows → new.blocks ≡ remove blocks f.place → IsTaken t address count new f.window
+      found_block_taken f new is_later same of_new = taken_block f new (found_block f is_later) (rows_below row f of_row is_later.1) same of_new
+
+      pub row_unwritten : (f : Found) → IsLater row block (places.Row f) → (e : Entry) → slice_get rows f.place ≡ Some e → is_written e ≡ false
+      row_unwritten f is_later e at =
+          let greatest = found_row f is_later in
+          let whole : e.window ≡ f.window = some_same e.window f.window (sym (place_map (λ (x : Entry). x.window) rows f.place e at) ∙ greatest.stands) in
+          unwritten f.place e (place_left rows blocks f.place e at)
+          (subst (λ (x : coded.Window). window_meets (window x) address (address + count) ≡ true) (sym whole) greatest.meets)
+        where
+          some_same : (x y : coded.Window) → Some x ≡ Some y → x ≡ y
+          some_same x y h = cc
+
+-- no bytes are stored
+pub untouched_nothing : (t : Table) (address : ℕ) → IsUntouched t address 0 t
+untouched_nothing t address = record {
+  none = none_of_nothing (λ o. true) (objects t) address;
+  all = filter-all (λ o. o.is_written || not (some_from (has_byte o.window) address 0)) (objects t) (λ i o at. by o.is_written);
+  stays = refl;
+}
+  where
+    by : (w : Bool) → (w || not false) ≡ true
+    by true = refl
+    by false = refl
 
 -- what is left once all that a store meets are taken is the same
 pub taken_left : (old : Table) (address count : ℕ) (new : Table) (w : coded.Window) → IsTaken old address count new w

@@ -1,5 +1,5 @@
 -- Arguments as the definitions of tasks have them, and their windows.
-use Rattle.std.specs.Prelude.{◌≡◌, ◌≤◌, ◌<◌, ◌+◌, ◌*◌, ◌-◌, ◌^◌, ◌⊎◌, ℕ, ℤ, Bool, true, false, ◌||◌, List, [], ◌∷◌, fold}
+use Rattle.std.specs.Prelude.{◌≡◌, ◌≤◌, ◌<◌, ◌+◌, ◌*◌, ◌-◌, ◌^◌, ◌⊎◌, ℕ, ℤ, Bool, true, false, ◌||◌, List, [], ◌∷◌, fold, slice_get, Option, Some}
 use Rattle.std.specs.List.{list_all}
 use Rattle.css_base.specs.declared.direction.Direction.TheVariants.{In}
 use Rattle.css_semantics.specs.Dialogue.{Argument}
@@ -33,6 +33,15 @@ pub record IsWindowOf (a : code.Argument) (w : coded.Window) : Type 0 where
   pub fit : is_unfit a ≡ false
   pub is : window w ≡ tasks.window (given a)
   pub is_window : IsWindow (window w)
+
+-- each argument has elements of a byte or more
+abbrev pub HaveElements : List code.Argument → Type 0
+HaveElements arguments = (i : ℕ) (a : code.Argument) → slice_get arguments i ≡ Some a → 1 ≤ a.element
+
+-- no dimension of any is at fault
+pub record AreFit (arguments : List code.Argument) : Type 0 where
+  pub elements : HaveElements arguments
+  pub fit : (i : ℕ) (a : code.Argument) → slice_get arguments i ≡ Some a → is_unfit a ≡ false
 
 -- ---- measures
 

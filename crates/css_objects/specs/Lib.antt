@@ -5,3 +5,4 @@ pub mod Table
 pub mod Seen
 pub mod Stored
 pub mod Arguments
+pub mod Judged

@@ -2,6 +2,7 @@
 #![tactic(auto)]
 
 mod argument;
+mod judging;
 mod ordered;
 mod part;
 mod pending;

@@ -1,23 +1,28 @@
 //! The table of pending objects.
-ghost use Rattle.std.specs.Prelude.{filter, false, ◌≡◌, ◌==◌, ◌≢◌, ◌+◌, ◌≤◌, ℕ, not, length, slice_get, Some, MatchOption};
+ghost use Rattle.std.specs.Prelude.{filter, false, ◌≡◌, ◌==◌, ◌≢◌, ◌+◌, ◌≤◌, ℕ, not, map, length, slice_get, Some, MatchOption};
 ghost use Rattle.std.specs.List.{remove};
 ghost use Rattle.css_semantics.specs.Tasks.{is_same_window};
 ghost use Rattle.css_semantics.specs.Pending.{without_stored};
 ghost use Rattle.std.specs.List.{list_any};
-ghost use Rattle.css_semantics.specs.Rules.{share_byte, meets};
+ghost use Rattle.css_semantics.specs.Rules.{share_byte, meets, overlap, overlaps_partly};
+ghost use Rattle.css_objects.specs.Arguments.{given, HaveElements, AreFit};
+ghost use Rattle.css_objects.specs.Judged.{IsLayout, judgement, broken_by, JudgesWithin};
 ghost use Rattle.css_record.specs.Windows as records;
 ghost use Rattle.css_objects.specs.Found.{NoneMeets, IsLastMeeting, IsGreatestMeeting, NoneShares, IsLastSharing, TakesAtMost};
 ghost use Rattle.css_objects.specs.Table.{Entry, no_objects, all_entries, objects, windows, is_written, without};
 ghost use Rattle.css_objects.specs.Stored.{IsUntouched, IsTaken};
-ghost use Rattle.css_objects.specs.Seen.{ShowsAt, IsShown, IsProbe};
+ghost use Rattle.css_objects.specs.Seen.{ShowsAt, IsShown, IsProbe, crosses};
 
+use crate::argument::Argument;
+use crate::judging::{any_alias, any_dead, any_unfit, overlaps_given, room, window_at};
 use crate::ordered::{Found, Ordered};
 use crate::part::Part;
 use crate::pending::{Pending, Probe};
 use crate::search::{Place, any_meeting, later};
 use crate::steps::Steps;
 use crate::window::same;
-use css_record::Window;
+use css_base::Rule;
+use css_record::{Layout, Window};
 use std::alloc::Global;
 use std::marker::Model;
 use std::sync::ledger::Ledger;
@@ -131,8 +136,12 @@ impl ObjectTable {
         ensures answer { result ≡ not (list_any (λ o. is_same_window (records.window window) o.window) (objects self.now)) }
         ensures cost { TakesAtMost (length self.now.rows) (length self.now.blocks) window.rows steps.old steps.new }
     {
-        match self.pending_at(window.base, steps) {
-            Some(p) => !same(&p.window, &window),
+        match self.rows.find(window.base, steps) {
+            Some(f) => return !same(&f.window, &window),
+            None => {}
+        }
+        match self.blocks.find(window.base, steps) {
+            Some(f) => !same(&f.window, &window),
             None => true,
         }
     }
@@ -188,6 +197,68 @@ impl ObjectTable {
         self.blocks.remove(found.place);
     }
 
+    /// Whether a call breaks a rule on what it is given: the first of X3 to X7 that it breaks.
+    pub fn judge<L: Ledger>(
+        &self,
+        arguments: &[Argument],
+        layout: &Layout,
+        local_store: u32,
+        steps: &mut Steps<L>,
+    ) -> Result<(), Rule>
+        requires few { length arguments.now ≤ 32 }
+        requires elements { HaveElements arguments.now }
+        requires layout { IsLayout layout.now }
+        ensures answer { result ≡ judgement (broken_by layout.now local_store self.now arguments.now) }
+        ensures cost { JudgesWithin self.now arguments.now steps.old steps.new }
+    {
+        if any_unfit(arguments) {
+            return Err(Rule::Dimension);
+        }
+        if u64::from(local_store) < room(arguments) {
+            return Err(Rule::TooLarge);
+        }
+        if any_dead(arguments, layout) {
+            return Err(Rule::DeadArgument);
+        }
+        if self.overlaps_partly(arguments, steps) {
+            return Err(Rule::PartialOverlap);
+        }
+        if any_alias(arguments) {
+            return Err(Rule::AliasedArguments);
+        }
+        Ok(())
+    }
+
+    // Whether the window of an argument shares a byte with an object or with the window of another one, and isn't equal to it.
+    fn overlaps_partly<L: Ledger>(&self, arguments: &[Argument], steps: &mut Steps<L>) -> bool
+        requires { AreFit arguments.now }
+        ensures answer { result ≡ list_any (overlaps_partly (objects self.now) (map given arguments.now)) (map given arguments.now) }
+        ensures cost { JudgesWithin self.now arguments.now steps.old steps.new }
+    {
+        for place in 0..arguments.len() {
+            let window = window_at(arguments, place);
+            if self.overlaps(&window, steps) {
+                return true;
+            }
+            if overlaps_given(arguments, &window) {
+                return true;
+            }
+        }
+        false
+    }
+
+    // Whether a window shares a byte with an object, and isn't equal to it.
+    fn overlaps<L: Ledger>(&self, window: &Window, steps: &mut Steps<L>) -> bool
+        requires { records.IsWindow (records.window window.now) }
+        ensures answer { result ≡ list_any (λ o. overlap (records.window window.now) o.window) (objects self.now) }
+        ensures cost { TakesAtMost (length self.now.rows) (length self.now.blocks) window.now.rows steps.old steps.new }
+    {
+        match self.probe(*window, steps) {
+            Probe::Crosses(_) => true,
+            Probe::Nothing | Probe::Same(_) => false,
+        }
+    }
+
     /// No task of an earlier call is waited for any more.
     pub fn settled(&mut self)
         ensures { self.new ≡ no_objects }
@@ -212,6 +283,7 @@ impl ObjectTable {
     pub fn probe<L: Ledger>(&self, window: Window, steps: &mut Steps<L>) -> Probe<'_>
         requires { records.IsWindow (records.window window) }
         ensures answer { IsProbe self.now window result }
+        ensures partly { crosses result ≡ list_any (λ o. overlap (records.window window) o.window) (objects self.now) }
         ensures cost { TakesAtMost (length self.now.rows) (length self.now.blocks) window.rows steps.old steps.new }
     {
         let row = self.rows.last_row(&window, steps);
