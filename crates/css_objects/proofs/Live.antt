@@ -122,3 +122,8 @@ module _ (l : Layout) (is : IsLayout l) where
 
     pub dead_other : meets_gap w l.heap_top l.stack_place ≡ true → all_of_window (is_live_at l) w ≡ false
     dead_other met = false_from_ne_true (all_of_window (is_live_at l) w) (λ all. false≢true (sym (second_gap all) ∙ met))
+
+    pub last_gap : (met : Bool) → met ≡ meets_gap w l.heap_top l.stack_place → first_global ≤ w.base → end ≤ l.end → meets_gap w l.globals_end l.heap_start ≡ false
+        → not met ≡ all_of_window (is_live_at l) w
+    last_gap true met first last gap = sym (dead_other (sym met))
+    last_gap false none first last gap = sym (all_live first last gap (sym none))

@@ -21,7 +21,7 @@ drop_at (y ∷ xs) zero x at = ap (λ z. z ∷ xs) (some_inside y x at)
   where
     some_inside : {X : Type 0} (a b : X) → Some a ≡ Some b → a ≡ b
     some_inside a b e = cc
-drop_at (y ∷ xs) (suc i) x at = drop_at xs i x at
+drop_at (y ∷ xs) (suc i) x at = subst (λ (n : ℕ). drop i xs ≡ x ∷ drop n (y ∷ xs)) (let e : suc (i + 1) ≡ suc i + 1 = omega arith in e) (drop_at xs i x at)
 
 pub drop_over : {X : Type 0} (xs : List X) (i : ℕ) → length xs ≤ i → drop i xs ≡ []
 drop_over [] zero over = refl
@@ -35,7 +35,7 @@ take_at (y ∷ xs) zero x at = ap (λ z. z ∷ []) (some_inside y x at)
   where
     some_inside : {X : Type 0} (a b : X) → Some a ≡ Some b → a ≡ b
     some_inside a b e = cc
-take_at (y ∷ xs) (suc i) x at = ap (λ zs. y ∷ zs) (take_at xs i x at)
+take_at (y ∷ xs) (suc i) x at = subst (λ (n : ℕ). take n (y ∷ xs) ≡ y ∷ (take i xs ++ x ∷ [])) (let e : suc (i + 1) ≡ suc i + 1 = omega arith in e) (ap (λ zs. y ∷ zs) (take_at xs i x at))
 
 -- ---- whether one passes
 

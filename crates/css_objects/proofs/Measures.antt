@@ -1,5 +1,5 @@
 -- Dimensions, the products of dimensions, and the windows that they give.
-use Rattle.std.proofs.Common.{◌≡◌, ◌≢◌, ℕ, zero, suc, ◌+◌, ◌*◌, ◌-◌, ◌^◌, ◌<◌, ◌≤◌, ℤ, pos, negsuc, ◌<ℤ◌, ◌≤ℤ◌, int_lt, unsigned_abs, Bool, true, false, not, ◌&&◌, ◌||◌, List, [], ◌∷◌, length, drop, get_or, fold, nat_lt, nat_le, Option, Some, None, ◌⊎◌, inl, inr, refl, sym, ap, ◌∙◌, subst, arith, eqb}
+use Rattle.std.proofs.Common.{◌≡◌, ◌≢◌, ℕ, zero, suc, ◌+◌, ◌*◌, ◌-◌, ◌^◌, ◌<◌, ◌≤◌, ℤ, pos, negsuc, ◌<ℤ◌, ◌≤ℤ◌, int_lt, unsigned_abs, Bool, true, false, not, ◌&&◌, ◌||◌, List, [], ◌∷◌, length, drop, get_or, slice_get, fold, nat_lt, nat_le, Option, Some, None, ◌⊎◌, inl, inr, refl, sym, ap, ◌∙◌, subst, arith, eqb}
 use Rattle.std.specs.List.{list_all}
 use Rattle.std.proofs.lemmas.Int.{ints}
 use Rattle.std.proofs.Math.Nat.{suc-mul}
@@ -10,6 +10,7 @@ use Rattle.css_semantics.specs.Tasks as tasks
 use Rattle.css_semantics.specs.Rules.{is_dimension, overlaps_itself, has_bad_dimension}
 use Rattle.css_record.specs.declared.window.Window as coded
 use Rattle.css_record.specs.Windows.{window, IsWindow}
+use Rattle.css_objects.proofs.Looking.{drop_at}
 use Rattle.css_objects.specs.Arguments.{product, strided, is_bad_block, IsTooMuch, IsProduct, IsTooLong, IsLength, IsBlockOf, IsSpread}
 
 -- ---- one dimension
@@ -43,6 +44,9 @@ count_small (negsuc n) high = omega arith
 pub dimension_is : (d : ℤ) → is_dimension d ≡ true → (pos (tasks.count d) ≡ d) × (1 ≤ tasks.count d)
 dimension_is (pos n) is = (refl, leb-true 1 n (and_parts (nat_le 1 n) (nat_lt n (2 ^ 63)) is).0)
 dimension_is (negsuc n) is = absurd (false≢true is)
+
+pub in_order_by : (a b : ℤ) → int_lt a b ≡ false → b ≤ℤ a
+in_order_by a b h = grind (arith, ints)
 
 -- a product is no less than what it begins with
 times_more : (n m : ℕ) → 1 ≤ m → n ≤ n * m
@@ -94,6 +98,15 @@ left_over n ds length d rest left (inr over) =
         and_false true = refl
         and_false false = refl
     by true all = inr (omega (arith, over, product_grows rest (length * tasks.count d) all, left.same))
+
+pub at_get_or : {X : Type 0} (xs : List X) (i : ℕ) (d : X) → i < length xs → slice_get xs i ≡ Some (get_or xs i d)
+at_get_or [] i d within = absurd (omega arith)
+at_get_or (x ∷ xs) zero d within = refl
+at_get_or (x ∷ xs) (suc i) d within = at_get_or xs i d (omega arith)
+
+-- at a place
+pub over_at : (n : ℕ) (ds : List ℤ) (length i : ℕ) (d : ℤ) → IsLeft n ds length (drop i ds) → slice_get ds i ≡ Some d → IsTooMuch length d → IsTooLong n ds
+over_at n ds length i d left at over = left_over n ds length d (drop (i + 1) ds) (subst (IsLeft n ds length) (drop_at ds i d at) left) over
 
 pub left_length : (n : ℕ) (ds : List ℤ) (length : ℕ) → IsLeft n ds length [] → length ≤ 2 ^ 30 → IsLength n ds length
 left_length n ds length left small = record { dimensions = sym left.all; is = left.same; some = left.some; small = small }

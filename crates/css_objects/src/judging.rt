@@ -104,10 +104,16 @@ fn is_live(window: &Window, layout: &Layout) -> bool
     requires layout { IsLayout layout.now }
     ensures { result ≡ rules.all_of_window (is_live_at layout.now) (records.window window.now) }
 {
-    FIRST_GLOBAL <= window.base
-        && row_end(window, window.rows - 1) <= u64::from(layout.end)
-        && !meets_gap(window, layout.globals_end, layout.heap_start)
-        && !meets_gap(window, layout.heap_top, layout.stack_place)
+    if window.base < FIRST_GLOBAL {
+        return false;
+    }
+    if u64::from(layout.end) < row_end(window, window.rows - 1) {
+        return false;
+    }
+    if meets_gap(window, layout.globals_end, layout.heap_start) {
+        return false;
+    }
+    !meets_gap(window, layout.heap_top, layout.stack_place)
 }
 
 // Whether a window has a byte from one address up to another, where there may be none.
