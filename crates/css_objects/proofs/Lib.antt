@@ -13,3 +13,4 @@ pub mod Measures
 pub mod Looking
 pub mod Live
 pub mod Snapshots
+pub mod Judges

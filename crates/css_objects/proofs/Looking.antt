@@ -1,5 +1,5 @@
 -- Lists that are looked at one element after another.
-use Rattle.std.proofs.Common.{◌≡◌, ℕ, zero, suc, ◌+◌, ◌-◌, ◌<◌, ◌≤◌, Bool, true, false, not, ◌&&◌, ◌||◌, List, [], ◌∷◌, ◌++◌, length, map, filter, take, drop, fold, slice_get, Option, Some, None, inl, inr, refl, sym, ap, ◌∙◌, subst, arith, if◌then◌else◌}
+use Rattle.std.proofs.Common.{◌≡◌, ℕ, zero, suc, ◌+◌, ◌-◌, ◌<◌, ◌≤◌, Bool, true, false, not, ◌&&◌, ◌||◌, List, [], ◌∷◌, ◌++◌, length, map, filter, take, drop, fold, slice_get, Option, Some, None, is_some, MatchOption, inl, inr, refl, sym, ap, ◌∙◌, subst, arith, if◌then◌else◌}
 use Rattle.std.specs.List.{list_any}
 use Rattle.std.proofs.lemmas.Bool.{cases_order, or_left, or_from, false≢true, false_from_ne_true}
 use Rattle.std.proofs.lemmas.List.Folds.{list_any-append}
@@ -8,7 +8,9 @@ use Rattle.css_semantics.specs.Memory.{rounded_up}
 use Rattle.css_semantics.specs.Tasks.{Window, window, is_same_window, window_length, writes}
 use Rattle.css_semantics.specs.Rules.{different, room_of, has_alias}
 use Rattle.css_objects.specs.declared.argument.Argument as code
-use Rattle.css_objects.specs.Arguments.{given}
+use Rattle.css_objects.specs.Arguments.{given, is_unfit, IsWindowOf}
+use Rattle.css_objects.specs.Judged.{bytes_of}
+use Rattle.css_record.specs.declared.window.Window as coded
 
 pub within : {X : Type 0} (xs : List X) (i : ℕ) → i < length xs → (x : X) × (slice_get xs i ≡ Some x)
 within [] i inside = absurd (omega arith)
@@ -110,8 +112,8 @@ all_pass : {X : Type 0} (xs : List X) → filter (λ x. true) xs ≡ xs
 all_pass [] = refl
 all_pass (x ∷ xs) = ap (λ ys. x ∷ ys) (all_pass xs)
 
-abbrev bytes_of : ℕ → Window → ℕ
-bytes_of sum w = sum + rounded_up 128 (window_length w)
+abbrev added : ℕ → Window → ℕ
+added sum w = sum + rounded_up 128 (window_length w)
 
 -- what differs from the first ones, of those from a place on
 abbrev others : List Window → ℕ → List Window
@@ -119,11 +121,11 @@ others ws place = filter (λ v. not (list_any (λ u. is_same_window u v) (take p
 
 -- so many bytes, and those that are still to be added, are the room of all
 pub RoomLeft : List Window → (place room : ℕ) → Type 0
-RoomLeft ws place room = fold bytes_of room (others ws place) ≡ room_of ws
+RoomLeft ws place room = fold added room (others ws place) ≡ room_of ws
 
 pub room_begin : (ws : List Window) → RoomLeft ws 0 16384
 unfolding RoomLeft
-room_begin ws = ap (fold bytes_of 16384) (all_pass (different ws))
+room_begin ws = ap (fold added 16384) (all_pass (different ws))
 
 module _ (ws : List Window) (place room : ℕ) (w : Window) (left : RoomLeft ws place room) (at : slice_get ws place ≡ Some w) where
   abbrev is_new : Window → Bool
@@ -153,21 +155,29 @@ module _ (ws : List Window) (place room : ℕ) (w : Window) (left : RoomLeft ws 
   pub room_old : list_any (λ u. is_same_window u w) (take place ws) ≡ true → RoomLeft ws (place + 1) room
   unfolding RoomLeft
   room_old stands =
-      ap (fold bytes_of room) (sym later)
-      ∙ sym (ap (λ b. fold bytes_of room (if not b then w ∷ filter is_new (filter (λ v. not (is_same_window w v)) rest) else filter is_new (filter (λ v. not (is_same_window w v)) rest))) stands)
-      ∙ sym (ap (fold bytes_of room) here) ∙ left
+      ap (fold added room) (sym later)
+      ∙ sym (ap (λ b. fold added room (if not b then w ∷ filter is_new (filter (λ v. not (is_same_window w v)) rest) else filter is_new (filter (λ v. not (is_same_window w v)) rest))) stands)
+      ∙ sym (ap (fold added room) here) ∙ left
 
   -- and one that doesn't
   pub room_new : list_any (λ u. is_same_window u w) (take place ws) ≡ false → RoomLeft ws (place + 1) (room + rounded_up 128 (window_length w))
   unfolding RoomLeft
   room_new none =
-      ap (fold bytes_of (room + rounded_up 128 (window_length w))) (sym later)
-      ∙ sym (ap (λ b. fold bytes_of room (if not b then w ∷ filter is_new (filter (λ v. not (is_same_window w v)) rest) else filter is_new (filter (λ v. not (is_same_window w v)) rest))) none)
-      ∙ sym (ap (fold bytes_of room) here) ∙ left
+      ap (fold added (room + rounded_up 128 (window_length w))) (sym later)
+      ∙ sym (ap (λ b. fold added room (if not b then w ∷ filter is_new (filter (λ v. not (is_same_window w v)) rest) else filter is_new (filter (λ v. not (is_same_window w v)) rest))) none)
+      ∙ sym (ap (fold added room) here) ∙ left
+
+  pub room_next : RoomLeft ws (place + 1) (room + bytes_of place ws w)
+  unfolding RoomLeft
+  room_next = by (list_any (λ u. is_same_window u w) (take place ws)) refl
+    where
+      by : (b : Bool) → list_any (λ u. is_same_window u w) (take place ws) ≡ b → RoomLeft ws (place + 1) (room + (if b then 0 else rounded_up 128 (window_length w)))
+      by true stands = subst (RoomLeft ws (place + 1)) (let e : room ≡ room + 0 = omega arith in e) (room_old stands)
+      by false none = room_new none
 
 pub room_end : (ws : List Window) (place room : ℕ) → RoomLeft ws place room → length ws ≤ place → room ≡ room_of ws
 unfolding RoomLeft
-room_end ws place room left over = sym (ap (λ xs. fold bytes_of room (filter (λ v. not (list_any (λ u. is_same_window u v) (take place ws))) (different xs))) (drop_over ws place over)) ∙ left
+room_end ws place room left over = sym (ap (λ xs. fold added room (filter (λ v. not (list_any (λ u. is_same_window u v) (take place ws))) (different xs))) (drop_over ws place over)) ∙ left
 
 -- ---- windows that stand twice
 
@@ -194,3 +204,16 @@ module _ (all : List Argument) (place : ℕ) (a : Argument) (left : AliasLeft al
 pub alias_over : (all : List Argument) (place : ℕ) → AliasLeft all place → length all ≤ place → false ≡ has_alias all
 unfolding AliasLeft
 alias_over all place left over = sym (ap has_alias (drop_over all place over)) ∙ left
+
+-- ---- windows of arguments
+
+pub fit_of : (a : code.Argument) (r : Option coded.Window) → MatchOption r (is_unfit a ≡ true) (IsWindowOf a) → is_some r ≡ true → is_unfit a ≡ false
+fit_of a None unfit none = absurd (false≢true none)
+fit_of a (Some w) of none = of.fit
+
+pub twice_is : (a : Argument) (w : Window) (written answer : Bool) (rest : List Argument) → w ≡ window a → written ≡ writes a.direction
+    → answer ≡ list_any (λ b. is_same_window w (window b) && (written || writes b.direction)) rest
+    → list_any (λ b. is_same_window (window a) (window b) && (writes a.direction || writes b.direction)) rest ≡ answer
+twice_is a w written answer rest of_w of_written is =
+    ap (λ v. list_any (λ b. is_same_window v (window b) && (writes a.direction || writes b.direction)) rest) (sym of_w)
+    ∙ ap (λ r. list_any (λ b. is_same_window w (window b) && (r || writes b.direction)) rest) (sym of_written) ∙ sym is

@@ -1,5 +1,5 @@
 //! The rules on what a call of a task is given, but for pending objects.
-ghost use Rattle.std.specs.Prelude.{◌≡◌, ◌≤◌, ◌<◌, ◌+◌, ◌||◌, ◌&&◌, not, map, take, drop, length, nat_lt, slice_get, Some};
+ghost use Rattle.std.specs.Prelude.{◌≡◌, ◌≤◌, ◌<◌, ◌+◌, ◌^◌, ◌||◌, ◌&&◌, not, map, take, drop, length, nat_lt, slice_get, Some};
 ghost use Rattle.std.specs.List.{list_any};
 ghost use Rattle.css_semantics.specs.Memory.{rounded_up};
 ghost use Rattle.css_semantics.specs.Tasks as tasks;
@@ -8,7 +8,7 @@ ghost use Rattle.css_record.specs.Windows as records;
 ghost use Rattle.css_objects.specs.declared.argument.Argument as code;
 ghost use Rattle.css_objects.specs.Ranges.{window_meets};
 ghost use Rattle.css_objects.specs.Arguments.{given, is_unfit, HaveElements, AreFit, IsWindowOf};
-ghost use Rattle.css_objects.specs.Judged.{is_live_at, IsLayout};
+ghost use Rattle.css_objects.specs.Judged.{bytes_of, is_live_at, IsLayout};
 
 use crate::argument::Argument;
 use crate::window::{meets, overlaps, row_end, same};
@@ -54,12 +54,23 @@ pub(crate) fn room(arguments: &[Argument]) -> u64
 {
     let mut room = KEPT_BYTES;
     for place in 0..arguments.len() {
-        let window = window_at(arguments, place);
-        if !stands_before(arguments, place, &window) {
-            room += rounded(window.length());
-        }
+        room += bytes_at(arguments, place);
     }
     room
+}
+
+// The bytes of a local store that the window of the argument at a place takes, if it isn't that of an earlier one.
+fn bytes_at(arguments: &[Argument], place: usize) -> u64
+    requires place { place < length arguments.now }
+    requires fit { AreFit arguments.now }
+    ensures value { (a : code.Argument) → slice_get arguments.now place ≡ Some a → result ≡ bytes_of place (map tasks.window (map given arguments.now)) (tasks.window (given a)) }
+    ensures small { result ≤ 2 ^ 30 + 128 }
+{
+    let window = window_at(arguments, place);
+    if stands_before(arguments, place, &window) {
+        return 0;
+    }
+    rounded(window.length())
 }
 
 // The bytes that a window takes in a local store.
