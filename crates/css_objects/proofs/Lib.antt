@@ -14,3 +14,4 @@ pub mod Looking
 pub mod Live
 pub mod Snapshots
 pub mod Judges
+pub mod Kept

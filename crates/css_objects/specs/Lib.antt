@@ -6,3 +6,4 @@ pub mod Seen
 pub mod Stored
 pub mod Arguments
 pub mod Judged
+pub mod Versions

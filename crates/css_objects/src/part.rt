@@ -1,5 +1,5 @@
 //! Objects in order of base.
-ghost use Rattle.std.specs.Prelude.{◌≡◌, ◌+◌, ◌<◌, ◌≤◌, ◌&&◌, ℕ, [], length, slice_get, Some, MatchOption};
+ghost use Rattle.std.specs.Prelude.{◌≡◌, ◌+◌, ◌<◌, ◌≤◌, ◌&&◌, ◌++◌, ℕ, [], length, slice_get, Some, MatchOption, OnOk};
 ghost use Rattle.std.specs.List.{list_any, remove};
 ghost use Rattle.css_record.specs.Windows as records;
 ghost use Rattle.css_objects.specs.Ordered.{HasNone, IsAscending, IsOfBase, IsSearch};
@@ -7,17 +7,21 @@ ghost use Rattle.css_objects.specs.Found.{Each, AreRows, NoneMeets, IsLastMeetin
 ghost use Rattle.css_objects.specs.Ranges.{window_meets};
 ghost use Rattle.css_objects.specs.Table.{Entry, windows as windows_of, is_written, without, IsBlock};
 ghost use Rattle.css_objects.specs.Seen.{ShowsAt, IsSeen};
+ghost use Rattle.css_objects.specs.Versions.{versions, made_in, kept_in, left_in};
+ghost use Rattle.std.specs.Vec.Iter.{into_iter_items};
 
 use crate::ordered::{Found, Ordered};
 use crate::pending::{Pending, Probe, Version};
 use crate::search::{last_meeting, last_meeting_block, last_sharing_block, last_sharing_row};
 use crate::steps::Steps;
-use crate::version::Held;
+use crate::version::{Held, add_made, keep_all};
 use crate::window::{meets, same};
-use css_record::Window;
+use css_base::{Buffer, NoMemory};
+use css_record::{VersionName, Window};
 use std::alloc::Global;
 use std::marker::Model;
 use std::sync::ledger::Ledger;
+use std::vec::IntoIter;
 
 /// Objects in order of base, each with its current version. Contracts see their list.
 #[derive(Drop)]
@@ -192,6 +196,22 @@ impl Part {
             Some(f) => self.remove(f.place),
             None => {}
         }
+    }
+
+    /// Appends the names of the versions that tasks make. `NoMemory` may leave some of them appended.
+    pub(crate) fn add_made(&self, names: &mut Vec<VersionName>) -> Result<(), NoMemory>
+        ensures { OnOk result (names.new.items ≡ names.old.items ++ made_in (versions self.now)) }
+    {
+        add_made(&self.versions, names)
+    }
+
+    /// Puts buffers in the places of the versions that tasks make, one after another.
+    pub(crate) fn keep(&mut self, kept: &mut IntoIter<Buffer>)
+        ensures windows { windows_of self.new ≡ windows_of self.old }
+        ensures versions { versions self.new ≡ kept_in (versions self.old) (into_iter_items kept.old) }
+        ensures rest { into_iter_items kept.new ≡ left_in (versions self.old) (into_iter_items kept.old) }
+    {
+        keep_all(&mut self.versions, kept);
     }
 
     // The window of a base, where no steps are counted.

@@ -1,5 +1,5 @@
 //! The table of pending objects.
-ghost use Rattle.std.specs.Prelude.{filter, false, ◌≡◌, ◌==◌, ◌≢◌, ◌+◌, ◌≤◌, ℕ, not, map, length, slice_get, Some, MatchOption};
+ghost use Rattle.std.specs.Prelude.{filter, false, ◌≡◌, ◌==◌, ◌≢◌, ◌+◌, ◌≤◌, ℕ, not, map, length, slice_get, Some, MatchOption, IfOk};
 ghost use Rattle.std.specs.List.{remove};
 ghost use Rattle.css_semantics.specs.Tasks.{is_same_window};
 ghost use Rattle.css_semantics.specs.Pending.{without_stored};
@@ -7,6 +7,7 @@ ghost use Rattle.std.specs.List.{list_any};
 ghost use Rattle.css_semantics.specs.Rules.{share_byte, meets, overlap, overlaps_partly};
 ghost use Rattle.css_objects.specs.Arguments.{given, HaveElements, AreFit};
 ghost use Rattle.css_objects.specs.Judged.{IsLayout, judgement, broken_by, JudgesWithin};
+ghost use Rattle.css_objects.specs.Versions.{versions, made_in, kept_in};
 ghost use Rattle.css_record.specs.Windows as records;
 ghost use Rattle.css_objects.specs.Found.{NoneMeets, IsLastMeeting, IsGreatestMeeting, NoneShares, IsLastSharing, TakesAtMost};
 ghost use Rattle.css_objects.specs.Table.{Entry, no_objects, all_entries, objects, windows, is_written, without};
@@ -21,8 +22,8 @@ use crate::pending::{Pending, Probe};
 use crate::search::{Place, any_meeting, later};
 use crate::steps::Steps;
 use crate::window::same;
-use css_base::Rule;
-use css_record::{Layout, Window};
+use css_base::{Buffer, NoMemory, Rule};
+use css_record::{Layout, VersionName, Window};
 use std::alloc::Global;
 use std::marker::Model;
 use std::sync::ledger::Ledger;
@@ -257,6 +258,29 @@ impl ObjectTable {
             Probe::Crosses(_) => true,
             Probe::Nothing | Probe::Same(_) => false,
         }
+    }
+
+    /// The versions that tasks make, in the table's order.
+    pub fn made(&self, alloc: Global) -> Result<Vec<VersionName>, NoMemory>
+        ensures { IfOk result (λ names. names.items ≡ made_in (versions (all_entries self.now))) }
+    {
+        let mut names = Vec::new(alloc);
+        self.rows.add_made(&mut names)?;
+        self.blocks.add_made(&mut names)?;
+        Ok(names)
+    }
+
+    /// Puts these in the places of the versions that tasks make, one after another in the table's order. Which task made an object
+    /// stays known.
+    pub fn regenerated(&mut self, kept: Vec<Buffer>)
+        ensures versions { versions (all_entries self.new) ≡ kept_in (versions (all_entries self.old)) kept.items }
+        ensures rows { windows self.new.rows ≡ windows self.old.rows }
+        ensures blocks { windows self.new.blocks ≡ windows self.old.blocks }
+        ensures objects { objects self.new ≡ objects self.old }
+    {
+        let mut kept = kept.into_iter();
+        self.rows.keep(&mut kept);
+        self.blocks.keep(&mut kept);
     }
 
     /// No task of an earlier call is waited for any more.
