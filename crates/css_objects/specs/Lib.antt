@@ -7,3 +7,4 @@ pub mod Stored
 pub mod Arguments
 pub mod Judged
 pub mod Versions
+pub mod Naming

@@ -1,11 +1,11 @@
 //! Objects in order of base.
-ghost use Rattle.std.specs.Prelude.{◌≡◌, ◌+◌, ◌<◌, ◌≤◌, ◌&&◌, ◌++◌, ℕ, [], length, slice_get, Some, MatchOption, OnOk};
+ghost use Rattle.std.specs.Prelude.{◌≡◌, ◌+◌, ◌<◌, ◌≤◌, ◌&&◌, ◌++◌, ℕ, [], length, slice_get, slice_set, Some, MatchOption, OnOk, OnErr};
 ghost use Rattle.std.specs.List.{list_any, remove};
 ghost use Rattle.css_record.specs.Windows as records;
 ghost use Rattle.css_objects.specs.Ordered.{HasNone, IsAscending, IsOfBase, IsSearch};
 ghost use Rattle.css_objects.specs.Found.{Each, AreRows, NoneMeets, IsLastMeeting, IsGreatestMeeting, NoneShares, IsLastSharing, TakesAtMost};
 ghost use Rattle.css_objects.specs.Ranges.{window_meets};
-ghost use Rattle.css_objects.specs.Table.{Entry, windows as windows_of, is_written, without, IsBlock};
+ghost use Rattle.css_objects.specs.Table.{Entry, windows as windows_of, is_written, without, IsBlock, IsInserted};
 ghost use Rattle.css_objects.specs.Seen.{ShowsAt, IsSeen};
 ghost use Rattle.css_objects.specs.Versions.{versions, made_in, kept_in, left_in};
 ghost use Rattle.std.specs.Vec.Iter.{into_iter_items};
@@ -198,6 +198,27 @@ impl Part {
         }
     }
 
+    /// With an object more, whose base no other has. `NoMemory` leaves all as it was.
+    pub(crate) fn insert(&mut self, window: Window, version: Held) -> Result<(), NoMemory>
+        requires { HasNone (windows_of self.old) window.base }
+        ensures ok { OnOk result (IsInserted self.old window version self.new) }
+        ensures err { OnErr result (self.new ≡ self.old) }
+    {
+        self.versions.reserve(1)?;
+        let place = self.windows.insert(window)?;
+        self.versions.insert(place, version)?;
+        Ok(())
+    }
+
+    /// Gives the object at a place a new version.
+    pub(crate) fn set(&mut self, place: usize, version: Held)
+        requires { place < length self.old }
+        ensures windows { windows_of self.new ≡ windows_of self.old }
+        ensures versions { versions self.new ≡ slice_set (versions self.old) place version }
+    {
+        self.versions[place] = version;
+    }
+
     /// Appends the names of the versions that tasks make. `NoMemory` may leave some of them appended.
     pub(crate) fn add_made(&self, names: &mut Vec<VersionName>) -> Result<(), NoMemory>
         ensures { OnOk result (names.new.items ≡ names.old.items ++ made_in (versions self.now)) }
@@ -214,8 +235,8 @@ impl Part {
         keep_all(&mut self.versions, kept);
     }
 
-    // The window of a base, where no steps are counted.
-    fn found(&self, base: u32) -> Option<Found>
+    /// The window of a base, where no steps are counted.
+    pub(crate) fn found(&self, base: u32) -> Option<Found>
         ensures found { MatchOption result (HasNone (windows_of self.now) base) (IsOfBase (windows_of self.now) base) }
         ensures ascends { IsAscending (windows_of self.now) }
     {
