@@ -15,3 +15,4 @@ pub mod Live
 pub mod Snapshots
 pub mod Judges
 pub mod Kept
+pub mod Adding

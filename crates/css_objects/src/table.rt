@@ -1,5 +1,5 @@
 //! The table of pending objects.
-ghost use Rattle.std.specs.Prelude.{filter, false, ◌≡◌, ◌==◌, ◌≢◌, ◌+◌, ◌≤◌, ℕ, not, map, length, slice_get, Some, MatchOption, IfOk};
+ghost use Rattle.std.specs.Prelude.{filter, false, ◌≡◌, ◌==◌, ◌≢◌, ◌+◌, ◌≤◌, ℕ, not, map, length, slice_get, Some, MatchOption, IfOk, OnOk, OnErr, ◌<◌, IsPermutation};
 ghost use Rattle.std.specs.List.{remove};
 ghost use Rattle.css_semantics.specs.Tasks.{is_same_window};
 ghost use Rattle.css_semantics.specs.Pending.{without_stored};
@@ -8,6 +8,7 @@ ghost use Rattle.css_semantics.specs.Rules.{share_byte, meets, overlap, overlaps
 ghost use Rattle.css_objects.specs.Arguments.{given, HaveElements, AreFit};
 ghost use Rattle.css_objects.specs.Judged.{IsLayout, judgement, broken_by, JudgesWithin};
 ghost use Rattle.css_objects.specs.Versions.{versions, made_in, kept_in};
+ghost use Rattle.css_objects.specs.Naming.{with_version, with_read};
 ghost use Rattle.css_record.specs.Windows as records;
 ghost use Rattle.css_objects.specs.Found.{NoneMeets, IsLastMeeting, IsGreatestMeeting, NoneShares, IsLastSharing, TakesAtMost};
 ghost use Rattle.css_objects.specs.Table.{Entry, no_objects, all_entries, objects, windows, is_written, without};
@@ -21,6 +22,7 @@ use crate::part::Part;
 use crate::pending::{Pending, Probe};
 use crate::search::{Place, any_meeting, later};
 use crate::steps::Steps;
+use crate::version::Held;
 use crate::window::same;
 use css_base::{Buffer, NoMemory, Rule};
 use css_record::{Layout, VersionName, Window};
@@ -176,6 +178,48 @@ impl ObjectTable {
                 self.take_block(f);
                 Some(f.window)
             }
+        }
+    }
+
+    // With an object that tasks only read, if it isn't there. `NoMemory` leaves all as it was.
+    fn read(&mut self, window: Window, bytes: Buffer) -> Result<(), NoMemory>
+        requires is_window { records.IsWindow (records.window window) }
+        requires clear { list_any (λ o. overlap (records.window window) o.window) (objects self.old) ≡ false }
+        ensures ok { OnOk result (IsPermutation (all_entries self.new) (with_read (all_entries self.old) window bytes)) }
+        ensures err { OnErr result (self.new ≡ self.old) }
+    {
+        if window.rows == 1 {
+            self.read_row(window, bytes)
+        } else {
+            self.read_block(window, bytes)
+        }
+    }
+
+    // The same of one row.
+    fn read_row(&mut self, window: Window, bytes: Buffer) -> Result<(), NoMemory>
+        requires is_window { records.IsWindow (records.window window) }
+        requires one { window.rows ≡ 1 }
+        requires clear { list_any (λ o. overlap (records.window window) o.window) (objects self.old) ≡ false }
+        ensures ok { OnOk result (IsPermutation (all_entries self.new) (with_read (all_entries self.old) window bytes)) }
+        ensures err { OnErr result (self.new ≡ self.old) }
+    {
+        match self.rows.found(window.base) {
+            Some(_) => Ok(()),
+            None => self.rows.insert(window, Held::Kept { bytes, by: None }),
+        }
+    }
+
+    // The same of several rows.
+    fn read_block(&mut self, window: Window, bytes: Buffer) -> Result<(), NoMemory>
+        requires is_window { records.IsWindow (records.window window) }
+        requires several { 1 < window.rows }
+        requires clear { list_any (λ o. overlap (records.window window) o.window) (objects self.old) ≡ false }
+        ensures ok { OnOk result (IsPermutation (all_entries self.new) (with_read (all_entries self.old) window bytes)) }
+        ensures err { OnErr result (self.new ≡ self.old) }
+    {
+        match self.blocks.found(window.base) {
+            Some(_) => Ok(()),
+            None => self.blocks.insert(window, Held::Kept { bytes, by: None }),
         }
     }
 
