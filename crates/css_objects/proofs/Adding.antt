@@ -68,7 +68,7 @@ all_places : {X : Type 0} (P : X → Type 0) (xs : List X) → ((i : ℕ) (x : X
 all_places P [] each = All-nil P
 all_places P (x ∷ xs) each = All-cons P x xs (each 0 x refl) (all_places P xs (λ i y at. each (suc i) y at))
 
-filter-insert_false : {X : Type 0} (p : X → Bool) (xs : List X) (i : ℕ) (y : X) → p y ≡ false → filter p (insert xs i y) ≡ filter p xs
+pub filter-insert_false : {X : Type 0} (p : X → Bool) (xs : List X) (i : ℕ) (y : X) → p y ≡ false → filter p (insert xs i y) ≡ filter p xs
 filter-insert_false p [] zero y fails = ap (λ b. if b then y ∷ [] else []) fails
 filter-insert_false p [] (suc i) y fails = ap (λ b. if b then y ∷ [] else []) fails
 filter-insert_false p (x ∷ xs) zero y fails = ap (λ b. if b then y ∷ filter p (x ∷ xs) else filter p (x ∷ xs)) fails
@@ -85,7 +85,7 @@ either (Ok x) P Q ok err = inl ok
 either (Err e) P Q ok err = inr err
 
 -- windows in order of base with one more, which is where the others leave a gap
-with_gap : (ws : List coded.Window) (w : coded.Window) (g : ℕ) → IsGap ws g w.base → (us vs : List coded.Window) → ws ≡ us ++ vs
+pub with_gap : (ws : List coded.Window) (w : coded.Window) (g : ℕ) → IsGap ws g w.base → (us vs : List coded.Window) → ws ≡ us ++ vs
     → Each us (λ u. u.base < w.base) → Each vs (λ v. w.base < v.base) → insert ws g w ≡ us ++ w ∷ vs
 with_gap ws w g gap us vs whole below above =
     let place : g ≡ length us = by (cases_order g (length us)) in
@@ -179,7 +179,7 @@ module _ (rows blocks : List Entry) (written : List coded.Window) (is : IsTable 
     apart_with : (place : ℕ) → AreApart (map object (insert (rows ++ blocks) place entry))
     apart_with place = subst AreApart (sym (map-insert object (rows ++ blocks) place entry)) (apart-insert (map object (rows ++ blocks)) place (object entry) is.apart shares_none)
 
-    each_insert : (P : coded.Window → Type 0) (es : List Entry) (place : ℕ) → Each (windows es) P → P w → Each (windows (insert es place entry)) P
+    pub each_insert : (P : coded.Window → Type 0) (es : List Entry) (place : ℕ) → Each (windows es) P → P w → Each (windows (insert es place entry)) P
     each_insert P es place all one i v at =
         let found = map_place (λ (x : Entry). x.window) (insert es place entry) i v at in
         elim (place_insert es place entry i found.0 found.1) [
@@ -187,7 +187,7 @@ module _ (rows blocks : List Entry) (written : List coded.Window) (is : IsTable 
           | inr old ↦ subst P found.2 (all old.0 found.0.window (place_map (λ (x : Entry). x.window) es old.0 found.0 old.1))
         ]
 
-    apart_row : (place : ℕ) → place ≤ length rows → AreApart (map object (insert rows place entry ++ blocks))
+    pub apart_row : (place : ℕ) → place ≤ length rows → AreApart (map object (insert rows place entry ++ blocks))
     apart_row place within = subst (λ es. AreApart (map object es)) (insert-append_left rows blocks place entry within) (apart_with place)
 
     apart_block : (place : ℕ) → AreApart (map object (rows ++ insert blocks place entry))
@@ -227,7 +227,7 @@ module _ (rows blocks : List Entry) (written : List coded.Window) (is : IsTable 
       apart = apart_block place;
     }
 
-    rows_with : w.rows ≡ 1 → (place : ℕ) → place ≤ length rows → IsAscending (windows (insert rows place entry)) → AreRows (windows (insert rows place entry))
+    pub rows_with : w.rows ≡ 1 → (place : ℕ) → place ≤ length rows → IsAscending (windows (insert rows place entry)) → AreRows (windows (insert rows place entry))
     rows_with one place within ascends =
         rows_of (windows (insert rows place entry)) (each_insert IsRow rows place is.rows_are.rows (record { is_window = is_window; one = one })) ascends
         (windows_apart (insert rows place entry) blocks (apart_row place within))
@@ -265,7 +265,7 @@ module _ (rows blocks : List Entry) (written : List coded.Window) (is : IsTable 
           | inr same ↦ subst (λ es. IsTable rows es written) (sym same) is
         ]
 
-    row_added : (rows' : List Entry) → IsInserted rows w version rows' → IsPermutation (rows' ++ blocks) ((rows ++ blocks) ++ entry ∷ [])
+    pub row_added : (rows' : List Entry) → IsInserted rows w version rows' → IsPermutation (rows' ++ blocks) ((rows ++ blocks) ++ entry ∷ [])
     row_added rows' added =
         let long = length-map rows (λ (e : Entry). e.window) in
         subst (λ es. IsPermutation (es ++ blocks) ((rows ++ blocks) ++ entry ∷ [])) (sym added.is) (row_permuted added.place (omega (arith, added.gap.within, long)))
@@ -299,7 +299,7 @@ module _ (rows blocks : List Entry) (written : List coded.Window) (is : IsTable 
         (λ added. subst (IsPermutation (rows ++ blocks')) (sym with_new_read) (block_added new (held.Kept bytes None) blocks' added)) ok
 
   -- an object that is there
-  found_same : (i : ℕ) (e : Entry) → slice_get (rows ++ blocks) i ≡ Some e → e.window.base ≡ w.base → list_any (λ x. is_same_window (window w) (window x.window)) (rows ++ blocks) ≡ true
+  pub found_same : (i : ℕ) (e : Entry) → slice_get (rows ++ blocks) i ≡ Some e → e.window.base ≡ w.base → list_any (λ x. is_same_window (window w) (window x.window)) (rows ++ blocks) ≡ true
   found_same i e at base =
       any_one (λ (x : Entry). is_same_window (window w) (window x.window)) (rows ++ blocks) i e at
       (subst (λ (v : coded.Window). is_same_window (window w) (window v) ≡ true) (of_base i e at base) (same_refl w))

@@ -35,11 +35,10 @@ length-kept [] kept = refl
 length-kept (v ∷ vs) kept = ap suc (length-kept vs (left_by v kept))
 
 -- who made them stays
-has_maker : Held → Bool
+abbrev pub has_maker : Held → Bool
 has_maker v = is_some (maker v)
 
 first-maker : (v : Held) (kept : List (List ℕ)) → has_maker (kept_first v kept) ≡ has_maker v
-unfolding has_maker
 first-maker (held.Made task out) [] = refl
 first-maker (held.Made task out) (bytes ∷ kept) = refl
 first-maker (held.Kept bytes by) kept = refl
@@ -50,8 +49,7 @@ kept-makers (v ∷ vs) kept = ap (λ b. b ∷ map has_maker (kept_in vs (left_by
 
 -- ---- entries with the same windows and makers
 
-same_parts : (es fs : List Entry) → windows es ≡ windows fs → map has_maker (versions es) ≡ map has_maker (versions fs) → map object es ≡ map object fs
-unfolding has_maker
+pub same_parts : (es fs : List Entry) → windows es ≡ windows fs → map has_maker (versions es) ≡ map has_maker (versions fs) → map object es ≡ map object fs
 same_parts [] [] of_w of_m = refl
 same_parts [] (f ∷ fs) of_w of_m = absurd (cc)
 same_parts (e ∷ es) [] of_w of_m = absurd (cc)
@@ -64,8 +62,7 @@ same_parts (e ∷ es) (f ∷ fs) of_w of_m =
     ∙ ap (λ b. record { window = window f.window; is_written = b } ∷ map object es) m
     ∙ ap (λ os. object f ∷ os) (same_parts es fs ws ms)
 
-same_written : (es fs : List Entry) → windows es ≡ windows fs → map has_maker (versions es) ≡ map has_maker (versions fs) → windows (filter is_written es) ≡ windows (filter is_written fs)
-unfolding has_maker
+pub same_written : (es fs : List Entry) → windows es ≡ windows fs → map has_maker (versions es) ≡ map has_maker (versions fs) → windows (filter is_written es) ≡ windows (filter is_written fs)
 same_written [] [] of_w of_m = refl
 same_written [] (f ∷ fs) of_w of_m = absurd (cc)
 same_written (e ∷ es) [] of_w of_m = absurd (cc)

@@ -16,3 +16,4 @@ pub mod Snapshots
 pub mod Judges
 pub mod Kept
 pub mod Adding
+pub mod Making

@@ -9,6 +9,8 @@ ghost use Rattle.css_objects.specs.Arguments.{given, HaveElements, AreFit};
 ghost use Rattle.css_objects.specs.Judged.{IsLayout, judgement, broken_by, JudgesWithin};
 ghost use Rattle.css_objects.specs.Versions.{versions, made_in, kept_in};
 ghost use Rattle.css_objects.specs.Naming.{with_version, with_read};
+ghost use Rattle.css_objects.specs.Ordered.{HasNone, IsOfBase};
+ghost use Rattle.css_objects.specs.declared.version.Held.TheVariants as held;
 ghost use Rattle.css_record.specs.Windows as records;
 ghost use Rattle.css_objects.specs.Found.{NoneMeets, IsLastMeeting, IsGreatestMeeting, NoneShares, IsLastSharing, TakesAtMost};
 ghost use Rattle.css_objects.specs.Table.{Entry, no_objects, all_entries, objects, windows, is_written, without};
@@ -177,6 +179,85 @@ impl ObjectTable {
             Place::Block(f) => {
                 self.take_block(f);
                 Some(f.window)
+            }
+        }
+    }
+
+    // Gives a window's object, which may be new, the version that a task makes of it. `NoMemory` leaves all as it was.
+    fn make(&mut self, window: Window, task: u64, out: u32) -> Result<(), NoMemory>
+        requires is_window { records.IsWindow (records.window window) }
+        requires clear { list_any (λ o. overlap (records.window window) o.window) (objects self.old) ≡ false }
+        ensures ok { OnOk result (IsPermutation (all_entries self.new) (with_version (all_entries self.old) window (held.Made task out))) }
+        ensures err { OnErr result (self.new ≡ self.old) }
+    {
+        if 1 < window.rows {
+            return self.make_block(window, task, out);
+        }
+        match self.rows.found(window.base) {
+            Some(f) => self.make_old(f, window, task, out),
+            None => self.make_new(window, task, out),
+        }
+    }
+
+    // The same of several rows.
+    fn make_block(&mut self, window: Window, task: u64, out: u32) -> Result<(), NoMemory>
+        requires is_window { records.IsWindow (records.window window) }
+        requires several { 1 < window.rows }
+        requires clear { list_any (λ o. overlap (records.window window) o.window) (objects self.old) ≡ false }
+        ensures ok { OnOk result (IsPermutation (all_entries self.new) (with_version (all_entries self.old) window (held.Made task out))) }
+        ensures err { OnErr result (self.new ≡ self.old) }
+    {
+        match self.blocks.found(window.base) {
+            Some(f) => {
+                self.blocks.set(f.place, Held::Made { task, out });
+                Ok(())
+            }
+            None => self.blocks.insert(window, Held::Made { task, out }),
+        }
+    }
+
+    // The same of one row that is an object.
+    fn make_old(
+        &mut self,
+        found: Found,
+        window: Window,
+        task: u64,
+        out: u32,
+    ) -> Result<(), NoMemory>
+        requires is_window { records.IsWindow (records.window window) }
+        requires found { IsOfBase (windows self.old.rows) window.base found }
+        requires clear { list_any (λ o. overlap (records.window window) o.window) (objects self.old) ≡ false }
+        ensures ok { OnOk result (IsPermutation (all_entries self.new) (with_version (all_entries self.old) window (held.Made task out))) }
+        ensures err { OnErr result (self.new ≡ self.old) }
+    {
+        match self.written.found(window.base) {
+            Some(_) => {
+                self.rows.set(found.place, Held::Made { task, out });
+                Ok(())
+            }
+            None => {
+                let _place = self.written.insert(window)?;
+                self.rows.set(found.place, Held::Made { task, out });
+                Ok(())
+            }
+        }
+    }
+
+    // The same of one row that is no object.
+    fn make_new(&mut self, window: Window, task: u64, out: u32) -> Result<(), NoMemory>
+        requires is_window { records.IsWindow (records.window window) }
+        requires one { window.rows ≡ 1 }
+        requires none { HasNone (windows self.old.rows) window.base }
+        requires clear { list_any (λ o. overlap (records.window window) o.window) (objects self.old) ≡ false }
+        ensures ok { OnOk result (IsPermutation (all_entries self.new) (with_version (all_entries self.old) window (held.Made task out))) }
+        ensures err { OnErr result (self.new ≡ self.old) }
+    {
+        let _place = self.written.insert(window)?;
+        match self.rows.insert(window, Held::Made { task, out }) {
+            Ok(()) => Ok(()),
+            Err(e) => {
+                self.written.drop_base(window.base);
+                Err(e)
             }
         }
     }
