@@ -17,3 +17,5 @@ pub mod Judges
 pub mod Kept
 pub mod Adding
 pub mod Making
+pub mod Names
+pub mod Holding

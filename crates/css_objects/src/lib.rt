@@ -3,6 +3,7 @@
 
 mod argument;
 mod judging;
+mod naming;
 mod ordered;
 mod part;
 mod pending;

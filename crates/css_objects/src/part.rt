@@ -1,5 +1,5 @@
 //! Objects in order of base.
-ghost use Rattle.std.specs.Prelude.{◌≡◌, ◌+◌, ◌<◌, ◌≤◌, ◌&&◌, ◌++◌, ℕ, [], length, slice_get, slice_set, Some, MatchOption, OnOk, OnErr};
+ghost use Rattle.std.specs.Prelude.{◌≡◌, ◌+◌, ◌<◌, ◌≤◌, ◌&&◌, ◌++◌, ℕ, [], length, slice_get, slice_set, Some, None, MatchOption, OnOk, OnErr};
 ghost use Rattle.std.specs.List.{list_any, remove};
 ghost use Rattle.css_record.specs.Windows as records;
 ghost use Rattle.css_objects.specs.Ordered.{HasNone, IsAscending, IsOfBase, IsSearch};
@@ -9,6 +9,7 @@ ghost use Rattle.css_objects.specs.Table.{Entry, windows as windows_of, is_writt
 ghost use Rattle.css_objects.specs.Seen.{ShowsAt, IsSeen};
 ghost use Rattle.css_objects.specs.Versions.{versions, made_in, kept_in, left_in};
 ghost use Rattle.std.specs.Vec.Iter.{into_iter_items};
+ghost use Rattle.css_objects.specs.Naming.{version_of};
 
 use crate::ordered::{Found, Ordered};
 use crate::pending::{Pending, Probe, Version};
@@ -208,6 +209,18 @@ impl Part {
         let place = self.windows.insert(window)?;
         self.versions.insert(place, version)?;
         Ok(())
+    }
+
+    /// Lends the version of the object of a window.
+    pub(crate) fn held(&self, window: &Window) -> Option<&Held>
+        ensures { MatchOption result (version_of self.now window.now ≡ None) (λ v. version_of self.now window.now ≡ Some v.now) }
+    {
+        let found = self.found(window.base)?;
+        if same(&found.window, window) {
+            Some(&self.versions[found.place])
+        } else {
+            None
+        }
     }
 
     /// Gives the object at a place a new version.

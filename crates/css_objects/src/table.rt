@@ -1,5 +1,5 @@
 //! The table of pending objects.
-ghost use Rattle.std.specs.Prelude.{filter, false, ◌≡◌, ◌==◌, ◌≢◌, ◌+◌, ◌≤◌, ℕ, not, map, length, slice_get, Some, MatchOption, IfOk, OnOk, OnErr, ◌<◌, IsPermutation};
+ghost use Rattle.std.specs.Prelude.{filter, false, ◌≡◌, ◌==◌, ◌≢◌, ◌+◌, ◌≤◌, ℕ, not, map, length, slice_get, Some, MatchOption, IfOk, OnOk, OnErr, ◌<◌, IsPermutation, None};
 ghost use Rattle.std.specs.List.{remove};
 ghost use Rattle.css_semantics.specs.Tasks.{is_same_window};
 ghost use Rattle.css_semantics.specs.Pending.{without_stored};
@@ -8,7 +8,7 @@ ghost use Rattle.css_semantics.specs.Rules.{share_byte, meets, overlap, overlaps
 ghost use Rattle.css_objects.specs.Arguments.{given, HaveElements, AreFit};
 ghost use Rattle.css_objects.specs.Judged.{IsLayout, judgement, broken_by, JudgesWithin};
 ghost use Rattle.css_objects.specs.Versions.{versions, made_in, kept_in};
-ghost use Rattle.css_objects.specs.Naming.{with_version, with_read};
+ghost use Rattle.css_objects.specs.Naming.{version_of, or_snapshot, with_version, with_read};
 ghost use Rattle.css_objects.specs.Ordered.{HasNone, IsOfBase};
 ghost use Rattle.css_objects.specs.declared.version.Held.TheVariants as held;
 ghost use Rattle.css_record.specs.Windows as records;
@@ -180,6 +180,36 @@ impl ObjectTable {
                 self.take_block(f);
                 Some(f.window)
             }
+        }
+    }
+
+    // Lends the version of the object of a window.
+    fn held(&self, window: &Window) -> Option<&Held>
+        ensures { MatchOption result (version_of (all_entries self.now) window.now ≡ None) (λ v. version_of (all_entries self.now) window.now ≡ Some v.now) }
+    {
+        match self.rows.held(window) {
+            Some(v) => Some(v),
+            None => self.blocks.held(window),
+        }
+    }
+
+    // The version of a window's object, or else a copy of its bytes, if there is one.
+    fn read_version(
+        &self,
+        window: &Window,
+        snapshot: &Option<Buffer>,
+    ) -> Result<Option<Held>, NoMemory>
+        ensures { IfOk result (λ v. v ≡ or_snapshot (version_of (all_entries self.now) window.now) snapshot.now) }
+    {
+        match self.held(window) {
+            Some(v) => Ok(Some(v.share()?)),
+            None => match snapshot {
+                Some(bytes) => Ok(Some(Held::Kept {
+                    bytes: bytes.share()?,
+                    by: None,
+                })),
+                None => Ok(None),
+            },
         }
     }
 

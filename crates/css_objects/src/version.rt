@@ -1,5 +1,5 @@
 //! Versions of objects.
-ghost use Rattle.std.specs.Prelude.{◌≡◌, ◌++◌, is_some, OnOk};
+ghost use Rattle.std.specs.Prelude.{◌≡◌, ◌++◌, is_some, OnOk, IfOk};
 ghost use Rattle.std.specs.Vec.Iter.{into_iter_items};
 ghost use Rattle.css_objects.specs.Table.{maker};
 ghost use Rattle.css_objects.specs.Versions.{made_in, kept_first, left_by, kept_in, left_in};
@@ -25,6 +25,32 @@ impl Held {
         match self {
             Held::Made { task: _, out: _ } => true,
             Held::Kept { bytes: _, by } => by.is_some(),
+        }
+    }
+
+    /// The task that made it, if one did.
+    pub(crate) fn maker(&self) -> Option<u64>
+        ensures { result ≡ maker self.now }
+    {
+        match self {
+            Held::Made { task, out: _ } => Some(*task),
+            Held::Kept { bytes: _, by } => *by,
+        }
+    }
+
+    /// The same version, whose bytes aren't copied.
+    pub(crate) fn share(&self) -> Result<Held, NoMemory>
+        ensures { IfOk result (λ v. v ≡ self.now) }
+    {
+        match self {
+            Held::Made { task, out } => Ok(Held::Made {
+                task: *task,
+                out: *out,
+            }),
+            Held::Kept { bytes, by } => Ok(Held::Kept {
+                bytes: bytes.share()?,
+                by: *by,
+            }),
         }
     }
 
