@@ -1,5 +1,5 @@
 -- The version of a window's object.
-use Rattle.std.proofs.Common.{◌≡◌, ◌≢◌, ℕ, zero, suc, ◌<◌, Bool, true, false, List, [], ◌∷◌, ◌++◌, length, map, find, cond, slice_get, slice_index, is_some, Option, Some, None, option_map, MatchOption, inl, inr, refl, sym, ap, ◌∙◌, subst, arith, if◌then◌else◌}
+use Rattle.std.proofs.Common.{◌≡◌, ◌≢◌, ℕ, zero, suc, ◌<◌, Bool, true, false, ◌||◌, List, [], ◌∷◌, ◌++◌, length, map, find, cond, slice_get, slice_index, is_some, Option, Some, None, option_map, MatchOption, inl, inr, refl, sym, ap, ◌∙◌, subst, arith, if◌then◌else◌}
 use Rattle.std.specs.List.{list_any}
 use Rattle.std.proofs.lemmas.List.{length-map}
 use Rattle.std.proofs.lemmas.Option.{slice_get_within}
@@ -121,6 +121,6 @@ version_there [] w = refl
 version_there (e ∷ es) w = by (is_same_window (window w) (window e.window)) (version_there es w)
   where
     by : (b : Bool) → is_some (version_of es w) ≡ list_any (λ e. is_same_window (window w) (window e.window)) es
-        → is_some (option_map (λ x. x.version) (cond b (Some e) (find (λ (x : Entry). is_same_window (window w) (window x.window)) es))) ≡ (cond b true (list_any (λ e. is_same_window (window w) (window e.window)) es))
+        → is_some (option_map (λ x. x.version) (cond b (Some e) (find (λ (x : Entry). is_same_window (window w) (window x.window)) es))) ≡ (b || list_any (λ e. is_same_window (window w) (window e.window)) es)
     by true rest = refl
     by false rest = rest

@@ -19,3 +19,4 @@ pub mod Adding
 pub mod Making
 pub mod Names
 pub mod Holding
+pub mod Giving

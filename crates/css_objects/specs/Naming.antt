@@ -124,10 +124,16 @@ abbrev pub with_snapshot : List Entry → Window → Option (List ℕ) → List 
 with_snapshot es w None = es
 with_snapshot es w (Some bytes) = with_read es w bytes
 
--- With what a task of this number is given: each window that it writes gets the version that the task makes of it, counted from a number
--- on. A window that it only reads is an object too.
+-- with what a task of this number is given for one pointer: where it writes, the version that it makes of its writing parameter of this
+-- number, and else an object that is read
+abbrev pub with_one : (number out : ℕ) → List Entry → Given → List Entry
+with_one number out es g = if writes g.direction then with_version es g.window (held.Made number out) else with_snapshot es g.window g.snapshot
+
+-- the number of the next writing parameter
+abbrev pub next_out : (out : ℕ) → Direction → ℕ
+next_out out d = if writes d then out + 1 else out
+
+-- the same of all pointers, in order
 abbrev pub with_given : (number out : ℕ) → List Entry → List Given → List Entry
 with_given number out es [] = es
-with_given number out es (g ∷ gs) =
-    if writes g.direction then with_given number (out + 1) (with_version es g.window (held.Made number out)) gs
-    else with_given number out (with_snapshot es g.window g.snapshot) gs
+with_given number out es (g ∷ gs) = with_given number (next_out out g.direction) (with_one number out es g) gs

@@ -14,6 +14,7 @@ mod version;
 mod window;
 
 pub use argument::{Argument, Dims};
+pub use naming::Named;
 pub use ordered::{Found, Ordered};
 pub use pending::{Pending, Probe, Version};
 pub use steps::Steps;

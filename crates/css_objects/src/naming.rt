@@ -1,5 +1,6 @@
 //! What the versions that a call reads are named.
-ghost use Rattle.std.specs.Prelude.{◌≡◌, ◌<◌, ◌≤◌, ◌^◌, ◌++◌, [], ◌∷◌, length, IfOk, OnOk};
+ghost use Rattle.std.specs.Vec.Iter.{into_iter_items};
+ghost use Rattle.std.specs.Prelude.{ℕ, List, Option, ◌≡◌, ◌<◌, ◌≤◌, ◌^◌, ◌++◌, [], ◌∷◌, length, IfOk, OnOk};
 ghost use Rattle.css_objects.specs.Arguments.{AreFit};
 ghost use Rattle.css_objects.specs.Naming.{AreWindows, AreMakers, Rises, IsTaskAdded, bytes_in, names_in};
 
@@ -9,6 +10,22 @@ use crate::version::Held;
 use css_base::{Buffer, NoMemory};
 use css_record::{VersionName, Window};
 use std::alloc::Global;
+use std::vec::IntoIter;
+
+/// What a call of a task reads and makes.
+#[derive(Drop)]
+pub struct Named {
+    /// The windows of its arguments.
+    pub windows: Vec<Window>,
+    /// The names of the versions that it reads, in order.
+    pub inputs: Vec<VersionName>,
+    /// The bytes of those that are there, in order.
+    pub given: Vec<Buffer>,
+    /// For each argument whether it is written and its window was pending before.
+    pub renamed: Vec<bool>,
+    /// The tasks that made what it reads, in rising order.
+    pub producers: Vec<u64>,
+}
 
 /// The windows of arguments.
 pub(crate) fn windows_of(alloc: Global, arguments: &[Argument]) -> Result<Vec<Window>, NoMemory>
@@ -83,5 +100,15 @@ fn add_task(tasks: &mut Vec<u64>, task: u64) -> Result<(), NoMemory>
             tasks.insert(place, task)?;
             Ok(())
         }
+    }
+}
+
+/// The next of some snapshots. None where none is left.
+pub(crate) fn next_of(snapshots: &mut IntoIter<Option<Buffer>>) -> Option<Buffer>
+    ensures { (s : Option (List ℕ)) (rest : List (Option (List ℕ))) → into_iter_items snapshots.old ≡ s ∷ rest → (result ≡ s) × (into_iter_items snapshots.new ≡ rest) }
+{
+    match snapshots.next() {
+        Some(s) => s,
+        None => None,
     }
 }

@@ -1,24 +1,25 @@
 //! The table of pending objects.
-ghost use Rattle.std.specs.Prelude.{filter, false, ◌≡◌, ◌==◌, ◌≢◌, ◌+◌, ◌≤◌, ℕ, not, map, length, slice_get, Some, MatchOption, IfOk, OnOk, OnErr, ◌<◌, IsPermutation, None};
+ghost use Rattle.std.specs.Prelude.{filter, false, ◌≡◌, ◌==◌, ◌≢◌, ◌+◌, ◌≤◌, ℕ, not, map, length, slice_get, Some, MatchOption, IfOk, OnOk, OnErr, ◌<◌, ◌&&◌, IsPermutation, None};
 ghost use Rattle.std.specs.List.{remove};
-ghost use Rattle.css_semantics.specs.Tasks.{is_same_window};
+ghost use Rattle.css_semantics.specs.Tasks.{is_same_window, writes};
 ghost use Rattle.css_semantics.specs.Pending.{without_stored};
 ghost use Rattle.std.specs.List.{list_any};
 ghost use Rattle.css_semantics.specs.Rules.{share_byte, meets, overlap, overlaps_partly};
 ghost use Rattle.css_objects.specs.Arguments.{given, HaveElements, AreFit};
 ghost use Rattle.css_objects.specs.Judged.{IsLayout, judgement, broken_by, JudgesWithin};
 ghost use Rattle.css_objects.specs.Versions.{versions, made_in, kept_in};
-ghost use Rattle.css_objects.specs.Naming.{version_of, or_snapshot, with_version, with_read};
+ghost use Rattle.css_objects.specs.Naming.{AreWindows, AreClear, AreMakers, version_of, or_snapshot, read_for, read_by, given_by, names_in, bytes_in, renames, next_out, with_version, with_read, with_one, with_given};
 ghost use Rattle.css_objects.specs.Ordered.{HasNone, IsOfBase};
 ghost use Rattle.css_objects.specs.declared.version.Held.TheVariants as held;
 ghost use Rattle.css_record.specs.Windows as records;
-ghost use Rattle.css_objects.specs.Found.{NoneMeets, IsLastMeeting, IsGreatestMeeting, NoneShares, IsLastSharing, TakesAtMost};
+ghost use Rattle.css_objects.specs.Found.{Each, NoneMeets, IsLastMeeting, IsGreatestMeeting, NoneShares, IsLastSharing, TakesAtMost};
 ghost use Rattle.css_objects.specs.Table.{Entry, no_objects, all_entries, objects, windows, is_written, without};
 ghost use Rattle.css_objects.specs.Stored.{IsUntouched, IsTaken};
 ghost use Rattle.css_objects.specs.Seen.{ShowsAt, IsShown, IsProbe, crosses};
 
 use crate::argument::Argument;
-use crate::judging::{any_alias, any_dead, any_unfit, overlaps_given, room, window_at};
+use crate::judging::{any_alias, any_dead, any_unfit, is_read, is_written, overlaps_given, room, window_at};
+use crate::naming::{Named, bytes_of, makers_of, names_of, next_of, windows_of};
 use crate::ordered::{Found, Ordered};
 use crate::part::Part;
 use crate::pending::{Pending, Probe};
@@ -26,7 +27,7 @@ use crate::search::{Place, any_meeting, later};
 use crate::steps::Steps;
 use crate::version::Held;
 use crate::window::same;
-use css_base::{Buffer, NoMemory, Rule};
+use css_base::{Buffer, Direction, NoMemory, Rule};
 use css_record::{Layout, VersionName, Window};
 use std::alloc::Global;
 use std::marker::Model;
@@ -181,6 +182,159 @@ impl ObjectTable {
                 Some(f.window)
             }
         }
+    }
+
+    /// Names what a call of a task reads and makes, and enters it: each window that it writes gets a new version, and one that it only
+    /// reads is an object too. A snapshot has the bytes of a window that is read and isn't pending. `NoMemory` may leave some of the
+    /// call's windows entered.
+    pub fn name_args(
+        &mut self,
+        alloc: Global,
+        arguments: &[Argument],
+        number: u64,
+        snapshots: Vec<Option<Buffer>>,
+    ) -> Result<Named, NoMemory>
+        requires few { length arguments.now ≤ 32 }
+        requires fit { AreFit arguments.now }
+        requires apart { list_any (overlaps_partly (objects self.old) (map given arguments.now)) (map given arguments.now) ≡ false }
+        requires snapshots { length snapshots.items ≡ length arguments.now }
+        ensures windows { IfOk result (λ n. AreWindows arguments.now n.windows.items) }
+        ensures inputs { IfOk result (λ n. n.inputs.items ≡ names_in 0 (read_by (all_entries self.old) (given_by n.windows.items arguments.now snapshots.items))) }
+        ensures given { IfOk result (λ n. n.given.items ≡ bytes_in (read_by (all_entries self.old) (given_by n.windows.items arguments.now snapshots.items))) }
+        ensures renamed { IfOk result (λ n. n.renamed.items ≡ map (renames (objects self.old)) (map given arguments.now)) }
+        ensures producers { IfOk result (λ n. AreMakers (read_by (all_entries self.old) (given_by n.windows.items arguments.now snapshots.items)) n.producers.items) }
+        ensures entered { IfOk result (λ n. IsPermutation (all_entries self.new) (with_given number 0 (all_entries self.old) (given_by n.windows.items arguments.now snapshots.items))) }
+    {
+        let windows = windows_of(alloc, arguments)?;
+        let reads = self.reads_of(alloc, &windows, arguments, &snapshots)?;
+        let renamed = self.renamed_of(alloc, &windows, arguments)?;
+        let inputs = names_of(alloc, &reads)?;
+        let given = bytes_of(alloc, &reads)?;
+        let producers = makers_of(alloc, &reads)?;
+        self.give_all(&windows, arguments, number, snapshots)?;
+        Ok(Named {
+            windows,
+            inputs,
+            given,
+            renamed,
+            producers,
+        })
+    }
+
+    // The versions that a call reads, in order.
+    fn reads_of(
+        &self,
+        alloc: Global,
+        windows: &[Window],
+        arguments: &[Argument],
+        snapshots: &[Option<Buffer>],
+    ) -> Result<Vec<Held>, NoMemory>
+        requires windows { length windows.now ≡ length arguments.now }
+        requires snapshots { length snapshots.now ≡ length arguments.now }
+        ensures { IfOk result (λ versions. versions.items ≡ read_by (all_entries self.now) (given_by windows.now arguments.now snapshots.now)) }
+    {
+        let mut versions = Vec::new(alloc);
+        for place in 0..arguments.len() {
+            let direction = arguments[place].direction;
+            match self.read_for(direction, &windows[place], &snapshots[place])? {
+                Some(v) => versions.push(v)?,
+                None => {}
+            }
+        }
+        Ok(versions)
+    }
+
+    // The version that is read for a pointer, if it is read.
+    fn read_for(
+        &self,
+        direction: Direction,
+        window: &Window,
+        snapshot: &Option<Buffer>,
+    ) -> Result<Option<Held>, NoMemory>
+        ensures { IfOk result (λ v. v ≡ read_for (all_entries self.now) (record { window = window.now; direction = direction; snapshot = snapshot.now })) }
+    {
+        if is_read(direction) {
+            self.read_version(window, snapshot)
+        } else {
+            Ok(None)
+        }
+    }
+
+    // For each argument whether it is written and its window was an object.
+    fn renamed_of(
+        &self,
+        alloc: Global,
+        windows: &[Window],
+        arguments: &[Argument],
+    ) -> Result<Vec<bool>, NoMemory>
+        requires { AreWindows arguments.now windows.now }
+        ensures { IfOk result (λ renamed. renamed.items ≡ map (renames (objects self.now)) (map given arguments.now)) }
+    {
+        let mut renamed = Vec::new(alloc);
+        for place in 0..arguments.len() {
+            let direction = arguments[place].direction;
+            renamed.push(self.is_renamed(direction, &windows[place]))?;
+        }
+        Ok(renamed)
+    }
+
+    // Whether a window is written and is an object's.
+    fn is_renamed(&self, direction: Direction, window: &Window) -> bool
+        ensures { result ≡ (writes direction && list_any (λ o. is_same_window (records.window window.now) o.window) (objects self.now)) }
+    {
+        let there = self.held(window).is_some();
+        is_written(direction) && there
+    }
+
+    // Enters what a call is given.
+    fn give_all(
+        &mut self,
+        windows: &[Window],
+        arguments: &[Argument],
+        number: u64,
+        snapshots: Vec<Option<Buffer>>,
+    ) -> Result<(), NoMemory>
+        requires windows { length windows.now ≡ length arguments.now }
+        requires snapshots { length snapshots.items ≡ length arguments.now }
+        requires few { length windows.now ≤ 32 }
+        requires are { Each windows.now (λ w. records.IsWindow (records.window w)) }
+        requires clear { AreClear windows.now (objects self.old) }
+        ensures { OnOk result (IsPermutation (all_entries self.new) (with_given number 0 (all_entries self.old) (given_by windows.now arguments.now snapshots.items))) }
+    {
+        let mut snapshots = snapshots.into_iter();
+        let mut out: u32 = 0;
+        for place in 0..windows.len() {
+            let direction = arguments[place].direction;
+            let snapshot = next_of(&mut snapshots);
+            out = self.give(windows[place], direction, number, out, snapshot)?;
+        }
+        Ok(())
+    }
+
+    // Enters what a call is given for a pointer. The answer is the number of the next writing parameter.
+    fn give(
+        &mut self,
+        window: Window,
+        direction: Direction,
+        number: u64,
+        out: u32,
+        snapshot: Option<Buffer>,
+    ) -> Result<u32, NoMemory>
+        requires few { out < 32 }
+        requires is_window { records.IsWindow (records.window window) }
+        requires clear { list_any (λ o. overlap (records.window window) o.window) (objects self.old) ≡ false }
+        ensures out { IfOk result (λ next. next ≡ next_out out direction) }
+        ensures entered { OnOk result (IsPermutation (all_entries self.new) (with_one number out (all_entries self.old) (record { window = window; direction = direction; snapshot = snapshot }))) }
+    {
+        if is_written(direction) {
+            self.make(window, number, out)?;
+            return Ok(out + 1);
+        }
+        match snapshot {
+            Some(bytes) => self.read(window, bytes)?,
+            None => {}
+        }
+        Ok(out)
     }
 
     // Lends the version of the object of a window.
