@@ -4,7 +4,7 @@ use Rattle.std.specs.List.{list_any}
 use Rattle.std.specs.List.Sorted.{IsPermutation}
 use Rattle.std.proofs.lemmas.List.{length-map}
 use Rattle.std.proofs.lemmas.List.Folds.{list_any-append}
-use Rattle.std.proofs.lemmas.List.Sorted.{IsPermutation-refl, IsPermutation-sym, IsPermutation-trans, IsPermutation-map, IsPermutation-append_left, list_any-IsPermutation}
+use Rattle.std.proofs.lemmas.List.Sorted.{IsPermutation-refl, IsPermutation-trans, IsPermutation-map, IsPermutation-append_left, list_any-IsPermutation}
 use Rattle.std.proofs.lemmas.Bool.{or_from}
 use Rattle.std.proofs.lemmas.Option.{slice_get_within}
 use Rattle.css_base.specs.declared.direction.Direction.{Direction}
@@ -201,7 +201,7 @@ given_next number ws gs old place out now new g to at apart permuted = record {
   few = omega (arith, to.few, next_few out g.direction);
   clear = λ i w of_w.
       any_map object (λ o. overlap (window w) o.window) new
-      ∙ list_any-IsPermutation (λ (e : Entry). overlap (window w) (window e.window)) (with_one number out now g) new (IsPermutation-sym new (with_one number out now g) permuted)
+      ∙ list_any-IsPermutation (λ (e : Entry). overlap (window w) (window e.window)) new (with_one number out now g) permuted
       ∙ clear_one (λ v. overlap (window w) (window v)) number out now g
       (sym (any_map object (λ o. overlap (window w) o.window) now) ∙ to.clear i w of_w) (apart i w of_w);
 }

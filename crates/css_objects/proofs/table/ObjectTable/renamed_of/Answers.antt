@@ -1,7 +1,8 @@
-use Rattle.std.proofs.Common.{◌≡◌, ◌<◌, ◌++◌, ◌&&◌, [], ◌∷◌, length, map, refl, sym, ap, ◌∙◌, arith}
+use Rattle.std.proofs.Common.{◌≡◌, ◌<◌, ◌++◌, ◌&&◌, Bool, [], ◌∷◌, length, map, take, get_or, arith, sym, ap, ◌∙◌}
 use Rattle.std.specs.List.{list_any}
-use Rattle.std.proofs.lemmas.Option.{slice_get_read}
 use Rattle.css_semantics.specs.Tasks.{is_same_window, writes}
+use Rattle.css_record.specs.declared.window.Window.{Window}
+use Rattle.css_objects.specs.declared.argument.Argument.{Argument}
 use Rattle.css_objects.specs.Arguments.{given}
 use Rattle.css_objects.specs.Table.{objects}
 use Rattle.css_objects.specs.Naming.{renames}
@@ -13,16 +14,16 @@ use Rattle.css_objects.proofs.table.ObjectTable.renamed_of.Goals as goal
 
 pub loop-place-preserved : goal.loop-place-preserved
 loop-place-preserved c =
-    let a = c.index-arguments-place.result in
-    let args = c.args.arguments.now in
-    let place = c.loop-place.place in
-    let at = slice_get_read args (length args) place a refl c.loop-place-test.true c.index-arguments-place.is in
-    let within : place < length c.args.windows.now = omega (arith, windows_long args c.args.windows.now c.requires, c.loop-place-test.true) in
+    let zero : Window = record { base = 0; rows = 0; width = 0; stride = 0 } in
+    let within : c.loop-place.place < length c.args.windows.now = omega (arith, windows_long c.args.arguments.now c.args.windows.now c.requires, c.loop-place-test.true) in
+    let w : Window = get_or c.args.windows.now c.loop-place.place zero in
+    let a : Argument = get_or c.args.arguments.now c.loop-place.place c.index-arguments-place.result in
+    let at = at_get_or c.args.arguments.now c.loop-place.place c.index-arguments-place.result c.loop-place-test.true in
+    let is : c.is_renamed.result ≡ renames (objects c.args.self.now) (given a) =
+    c.is_renamed.ensures
+    ∙ renamed_is (objects c.args.self.now) a w (window_is c.args.arguments.now c.args.windows.now c.requires c.loop-place.place w a (at_get_or c.args.windows.now c.loop-place.place zero within) at) in
     c.in_ok-push.ensures.items
     ∙ ap (λ xs. xs ++ c.is_renamed.result ∷ []) c.loop-place.invariant
-    ∙ ap (λ b. _ ++ b ∷ [])
-    (c.is_renamed.ensures
-    ∙ ap (λ x. writes x.direction && list_any (λ o. is_same_window _ o.window) (objects c.args.self.now)) (sym c.index-arguments-place.is)
-    ∙ renamed_is (objects c.args.self.now) a _ (window_is args c.args.windows.now c.requires place _ a (at_get_or c.args.windows.now place _ within) at))
-    ∙ sym (take_at (map (renames (objects c.args.self.now)) (map given args)) place (renames (objects c.args.self.now) (given a))
-    (place_map (renames (objects c.args.self.now)) (map given args) place (given a) (place_map given args place a at)))
+    ∙ ap (λ (b : Bool). take c.loop-place.place (map (renames (objects c.args.self.now)) (map given c.args.arguments.now)) ++ b ∷ []) is
+    ∙ sym (take_at (map (renames (objects c.args.self.now)) (map given c.args.arguments.now)) c.loop-place.place (renames (objects c.args.self.now) (given a))
+    (place_map (renames (objects c.args.self.now)) (map given c.args.arguments.now) c.loop-place.place (given a) (place_map given c.args.arguments.now c.loop-place.place a at)))
