@@ -60,7 +60,7 @@ apart-insert [] (suc i) o apart all = (all, tt)
 apart-insert (p ∷ os) zero o apart all = (all, apart)
 apart-insert (p ∷ os) (suc i) o apart all = (
   All-insert (λ q. share_byte p.window q.window ≡ false) os i o apart.0
-  (share-sym p.window o.window ∙ All-head (λ q. share_byte o.window q.window ≡ false) p os all),
+      (share-sym p.window o.window ∙ All-head (λ q. share_byte o.window q.window ≡ false) p os all),
   apart-insert os i o apart.1 (All-tail (λ q. share_byte o.window q.window ≡ false) p os all),
 )
 

@@ -86,12 +86,12 @@ module _ (es : List Entry) (w : coded.Window) where
         some_same x y h = cc
 
 -- of two lists of objects
-find-append : {X : Type 0} (p : X → Bool) (xs ys : List X) → find p (xs ++ ys) ≡ (elim (find p xs) [ | Some x ↦ Some x | None ↦ find p ys ])
+find-append : {X : Type 0} (p : X → Bool) (xs ys : List X) → find p (xs ++ ys) ≡ (elim (find p xs) [ Some x ↦ Some x | None ↦ find p ys ])
 find-append p [] ys = refl
 find-append p (x ∷ xs) ys = by (p x) (find-append p xs ys)
   where
-    by : (b : Bool) → find p (xs ++ ys) ≡ (elim (find p xs) [ | Some x ↦ Some x | None ↦ find p ys ])
-        → cond b (Some x) (find p (xs ++ ys)) ≡ (elim (cond b (Some x) (find p xs)) [ | Some x ↦ Some x | None ↦ find p ys ])
+    by : (b : Bool) → find p (xs ++ ys) ≡ (elim (find p xs) [ Some x ↦ Some x | None ↦ find p ys ])
+        → cond b (Some x) (find p (xs ++ ys)) ≡ (elim (cond b (Some x) (find p xs)) [ Some x ↦ Some x | None ↦ find p ys ])
     by true rest = refl
     by false rest = rest
 
@@ -101,7 +101,7 @@ version_left es fs w v is =
     ∙ by (find (λ (e : Entry). is_same_window (window w) (window e.window)) es) is
   where
     by : (o : Option Entry) → option_map (λ e. e.version) o ≡ Some v
-        → option_map (λ e. e.version) (elim o [ | Some x ↦ Some x | None ↦ find (λ (e : Entry). is_same_window (window w) (window e.window)) fs ]) ≡ Some v
+        → option_map (λ e. e.version) (elim o [ Some x ↦ Some x | None ↦ find (λ (e : Entry). is_same_window (window w) (window e.window)) fs ]) ≡ Some v
     by None h = absurd (cc)
     by (Some x) h = h
 
@@ -111,7 +111,7 @@ version_right es fs w none =
     ∙ by (find (λ (e : Entry). is_same_window (window w) (window e.window)) es) none
   where
     by : (o : Option Entry) → option_map (λ e. e.version) o ≡ None
-        → option_map (λ e. e.version) (elim o [ | Some x ↦ Some x | None ↦ find (λ (e : Entry). is_same_window (window w) (window e.window)) fs ]) ≡ version_of fs w
+        → option_map (λ e. e.version) (elim o [ Some x ↦ Some x | None ↦ find (λ (e : Entry). is_same_window (window w) (window e.window)) fs ]) ≡ version_of fs w
     by None h = refl
     by (Some x) h = absurd (cc)
 

@@ -145,17 +145,23 @@ span_over base rows width stride some has order = by ((eqb rows 1) || (eqb width
     by true is =
         let whole = span_row base rows width stride is in
         let by_rows = mul-le 1 width rows width some (omega arith) in
-        let by_width = mul-le rows 1 rows width (omega arith) has in
-        (omega (arith, whole, by_rows), omega (arith, whole, by_width), λ two.
-        (elim (or_cases (eqb rows 1) (eqb width stride) is) [
-          | inl one ↦ absurd (omega (arith, two, (let e : rows ≡ 1 = eqb-true rows 1 one in e)))
-          | inr same ↦ omega (arith, whole, by_rows, (let e : width ≡ stride = eqb-true width stride same in e))
-        ]))
+        let by_width = mul-le rows 1 rows width (omega arith) has in (
+          omega (arith, whole, by_rows),
+          omega (arith, whole, by_width),
+          λ two.
+              (elim (or_cases (eqb rows 1) (eqb width stride) is) [
+                | inl one ↦ absurd (omega (arith, two, (let e : rows ≡ 1 = eqb-true rows 1 one in e)))
+                | inr same ↦ omega (arith, whole, by_rows, (let e : width ≡ stride = eqb-true width stride same in e))
+              ]),
+        )
     by false is =
         let whole = span_block base rows width stride is in
-        let by_stride = mul-le (rows - 1) 1 (rows - 1) stride (omega arith) (omega (arith, has, order)) in
-        (omega (arith, whole), omega (arith, whole, by_stride, has), λ two.
-        (let by_row = mul-le 1 stride (rows - 1) stride (omega (arith, two)) (omega arith) in omega (arith, whole, by_row)))
+        let by_stride = mul-le (rows - 1) 1 (rows - 1) stride (omega arith) (omega (arith, has, order)) in (
+          omega (arith, whole),
+          omega (arith, whole, by_stride, has),
+          λ two.
+              (let by_row = mul-le 1 stride (rows - 1) stride (omega (arith, two)) (omega arith) in omega (arith, whole, by_row)),
+        )
 
 module _ (base element : ℕ) (some : 1 ≤ element) (rows width stride : ℤ) where
   abbrev r : ℕ
@@ -180,7 +186,7 @@ module _ (base element : ℕ) (some : 1 ≤ element) (rows width stride : ℤ) w
   not_lower h = by width stride h
     where
       by : (a b : ℤ) → int_lt b a ≡ false → tasks.count a ≤ tasks.count b ⊎ (is_dimension a ≡ false) ⊎ (is_dimension b ≡ false)
-      by (pos a) (pos b) h = inl (elim (cases_lt b a) [ | inl less ↦ absurd (false≢true (sym h ∙ lt-ltb b a less)) | inr more ↦ more ])
+      by (pos a) (pos b) h = inl (elim (cases_lt b a) [ inl less ↦ absurd (false≢true (sym h ∙ lt-ltb b a less)) | inr more ↦ more ])
       by (negsuc a) b h = inr (inl refl)
       by (pos a) (negsuc b) h = inr (inr refl)
 
@@ -398,7 +404,7 @@ module _ (a : Argument) (other : a.is_strided ≡ true → length a.dimensions �
   pub row_bad : IsTooLong a.element a.dimensions → has_bad_dimension a ≡ true
   row_bad h =
       bad_by (list_all is_dimension a.dimensions) (overlaps_itself a.is_strided a.dimensions) (nat_lt (2 ^ 30) (tasks.span (tasks.window a)))
-      (elim h [ | inl none ↦ inl none | inr over ↦ inr (lt-ltb (2 ^ 30) (tasks.span (tasks.window a)) (omega (arith, over, span_is))) ])
+      (elim h [ inl none ↦ inl none | inr over ↦ inr (lt-ltb (2 ^ 30) (tasks.span (tasks.window a)) (omega (arith, over, span_is))) ])
 
   pub row_good : (n : ℕ) → IsLength a.element a.dimensions n → has_bad_dimension a ≡ false
   row_good n is =

@@ -60,7 +60,11 @@ fn length(element: u32, dimensions: &[i64]) -> Option<u32>
     for dimension in dimensions {
         length = times(length, *dimension)?;
     }
-    if length <= LARGEST { Some(length) } else { None }
+    if length <= LARGEST {
+        Some(length)
+    } else {
+        None
+    }
 }
 
 // The window of so many rows, whose width and stride are in elements. None where one of the three isn't a dimension, the width is

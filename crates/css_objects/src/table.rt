@@ -18,7 +18,9 @@ ghost use Rattle.css_objects.specs.Stored.{IsUntouched, IsTaken};
 ghost use Rattle.css_objects.specs.Seen.{ShowsAt, IsShown, IsProbe, crosses};
 
 use crate::argument::Argument;
-use crate::judging::{any_alias, any_dead, any_unfit, is_read, is_written, overlaps_given, room, window_at};
+use crate::judging::{
+    any_alias, any_dead, any_unfit, is_read, is_written, overlaps_given, room, window_at,
+};
 use crate::naming::{Named, bytes_of, makers_of, names_of, next_of, windows_of};
 use crate::ordered::{Found, Ordered};
 use crate::part::Part;
@@ -519,6 +521,8 @@ impl ObjectTable {
         requires elements { HaveElements arguments.now }
         requires layout { IsLayout layout.now }
         ensures answer { result ≡ judgement (broken_by layout.now local_store self.now arguments.now) }
+        ensures fit { OnOk result (AreFit arguments.now) }
+        ensures apart { OnOk result (list_any (overlaps_partly (objects self.now) (map given arguments.now)) (map given arguments.now) ≡ false) }
         ensures cost { JudgesWithin self.now arguments.now steps.old steps.new }
     {
         if any_unfit(arguments) {

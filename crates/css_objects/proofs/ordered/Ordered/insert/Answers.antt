@@ -28,8 +28,8 @@ returns-clause-ok c =
     let absent = no_key es c.args.window.base c.self.invariant (subst (λ (ws : List Window). HasNone ws c.args.window.base) (sym c.self.view_is) c.requires) in (
       c.gap-place.ensures.gap,
       ap (λ (xs : List (ℕ × Window)). map (λ e. e.1) xs) (c.in_ok-_none.ensures.entries ∙ new_entry c.args.window.base c.args.window es c.gap-place.result absent)
-      ∙ map-insert (λ (e : ℕ × Window). e.1) es c.gap-place.result (c.args.window.base, c.args.window)
-      ∙ ap (λ ws. insert ws c.gap-place.result c.args.window) c.self.view_is,
+          ∙ map-insert (λ (e : ℕ × Window). e.1) es c.gap-place.result (c.args.window.base, c.args.window)
+          ∙ ap (λ ws. insert ws c.gap-place.result c.args.window) c.self.view_is,
     )
 
 pub returns-clause-ascends : goal.returns-clause-ascends

@@ -13,3 +13,6 @@ overlaps_partly-requires g c = all_fit c.args.arguments.now c.requires.elements 
 
 pub any_alias-requires : goal.any_alias-requires
 any_alias-requires g c = all_fit c.args.arguments.now c.requires.elements (sym c.any_unfit.ensures ∙ c.if-any_unfit.false)
+
+pub returns-clause-fit : goal.returns-clause-fit
+returns-clause-fit g c = all_fit c.args.arguments.now c.requires.elements (sym c.any_unfit.ensures ∙ c.if-any_unfit.false)

@@ -13,7 +13,7 @@ returns-in-Some-clause-answer g c =
     let t = c.self.inside in (
       ap (λ (w : Window). w.base) c.pending.ensures.window ∙ c.in-Some.ensures.found.same,
       subst (λ (x : Table). IsShown x c.pending.result) c.self.view_is
-      (record { place = c.in-Some.f.place; shown = shows_left t.rows t.blocks c.in-Some.f.place c.pending.result c.pending.ensures.shows }),
+          (record { place = c.in-Some.f.place; shown = shows_left t.rows t.blocks c.in-Some.f.place c.pending.result c.pending.ensures.shows }),
     )
 
 pub returns-in-Some-clause-cost : goal.returns-in-Some-clause-cost
@@ -41,7 +41,7 @@ returns-clause-answer g c =
     let t = c.self.inside in (
       ap (λ (w : Window). w.base) c.pending-2.ensures.window ∙ c.in_ok-found.ensures.found.same,
       subst (λ (x : Table). IsShown x c.pending-2.result) c.self.view_is
-      (record { place = length t.rows + c.in_ok-found.found.place; shown = shows_right t.rows t.blocks c.in_ok-found.found.place c.pending-2.result c.pending-2.ensures.shows }),
+          (record { place = length t.rows + c.in_ok-found.found.place; shown = shows_right t.rows t.blocks c.in_ok-found.found.place c.pending-2.result c.pending-2.ensures.shows }),
     )
 
 pub returns-clause-cost : goal.returns-clause-cost
