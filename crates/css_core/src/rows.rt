@@ -6,7 +6,7 @@ ghost use Rattle.css_semantics.specs.Flat.{flat};
 ghost use Rattle.css_core.specs.Functions.{source};
 ghost use Rattle.css_core.specs.Starts.{start_of};
 ghost use Rattle.css_core.specs.TaskSamples.{measures_by_zero, starting_5};
-ghost use Rattle.css_core.specs.Rows.{run, ending_of, output_of, images_of, returned, main_breaks, task_breaks, row_limits, writes_after_read, never_waits, waits_for_x, reads_pending_read, waits_by_zero, prints_numbers, takes_input, copies_again, stores_into_read, stores_into_written, wait_for_a, at_finish, adds_in_rows, begins_in_argument, calls_main, finish_in, calls_of};
+ghost use Rattle.css_core.specs.WorkedRuns.{run, ending_of, output_of, images_of, returned, main_breaks, task_breaks, row_limits, writes_after_read, never_waits, waits_for_x, reads_pending_read, waits_by_zero, prints_numbers, takes_input, copies_again, stores_into_read, stores_into_written, wait_for_a, at_finish, adds_in_rows, begins_in_argument, calls_main, finish_in, calls_of};
 
 /// A task reads what a later one writes: it gets what was there before.
 pub fn write_after_read()

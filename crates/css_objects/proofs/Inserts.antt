@@ -5,14 +5,17 @@ use Rattle.std.specs.Option.{option_map_or}
 use Rattle.std.specs.Map.{lookup, keys_of}
 use Rattle.std.proofs.lemmas.List.{map-append, take-map, drop-map, length-map}
 use Rattle.std.proofs.lemmas.List.Edits.{length-insert, get_or-insert_below, get_or-insert_at, get_or-insert_above}
-use Rattle.std.proofs.lemmas.Bool.{cases_order}
+use Rattle.std.proofs.lemmas.Bool.{cases_order, ne_eqb}
 use Rattle.indexmap.specs.IndexMap.{insert_entry, move_index}
 use Rattle.indexmap.proofs.MapLemmas.{absent_from_lookup, or_len-absent, insert_entry-absent}
 use Rattle.css_record.specs.declared.window.Window.{Window}
 use Rattle.css_objects.specs.declared.version.Held.{Held}
-use Rattle.css_objects.specs.Ordered.{bases, IsAscending, IsInOrder, IsGap}
+use Rattle.css_objects.specs.declared.ordered.Found.{Found}
+use Rattle.css_objects.specs.Ordered.{bases, IsAscending, IsInOrder, IsGap, IsLastBelow, HasNone}
+use Rattle.css_objects.proofs.Searches.{base_at}
+use Rattle.std.proofs.lemmas.Option.{slice_get_within, get_or_from_slice_get}
 use Rattle.css_objects.specs.Table.{Entry, entries}
-use Rattle.css_objects.proofs.Lists.{place_right}
+use Rattle.css_objects.proofs.Lists.{place_map, place_right}
 
 pub map-insert : {X Y : Type 0} (f : X → Y) (xs : List X) (i : ℕ) (x : X) → map f (insert xs i x) ≡ insert (map f xs) i (f x)
 map-insert f xs i x =
@@ -116,3 +119,34 @@ entries-insert [] (y ∷ vs) i w v long within = absurd (omega arith)
 entries-insert (x ∷ ws) [] i w v long within = absurd (omega arith)
 entries-insert (x ∷ ws) (y ∷ vs) zero w v long within = refl
 entries-insert (x ∷ ws) (y ∷ vs) (suc i) w v long within = ap (λ rest. record { window = x; version = y } ∷ rest) (entries-insert ws vs i w v (omega arith) (omega arith))
+
+-- ---- where a window would stand
+
+pub gap_behind : (ws : List Window) (base : ℕ) (f : Found) → IsLastBelow ws base f → HasNone ws base → IsGap ws (f.place + 1) base
+gap_behind ws base f last none = record {
+  within = omega (arith, slice_get_within ws f.place f.window last.stands);
+  below = λ i under.
+      elim (cases_order i f.place) [
+        | inl same ↦ omega (arith, last.below, subst (λ (n : ℕ). slice_index (bases ws) n ≡ f.window.base) (sym same) (base_at ws f.place f.window last.stands))
+        | inr (inl before) ↦ omega (arith, last.below, last.before i before)
+        | inr (inr behind) ↦ absurd (omega arith)
+      ];
+  above = λ i from inside.
+      elim (cases_order (slice_index (bases ws) i) base) [
+        | inl same ↦ absurd (none i inside same)
+        | inr (inl less) ↦ absurd (omega (arith, last.above i from inside))
+        | inr (inr more) ↦ more
+      ];
+}
+
+-- no key is a base that no window has
+pub no_key : (es : List (ℕ × Window)) (base : ℕ) → IsInOrder (map (λ e. e.0) es) (map (λ e. e.1) es) → HasNone (map (λ e. e.1) es) base → lookup (nat_eq base) es ≡ None
+no_key es base is none =
+    lookup_absent base es
+    (λ i e at.
+    ne_eqb base e.0
+    (λ same.
+    let key : slice_index (map (λ (x : ℕ × Window). x.0) es) i ≡ e.0 = get_or_from_slice_get (map (λ (x : ℕ × Window). x.0) es) i e.0 0 (place_map (λ (x : ℕ × Window). x.0) es i e at) in
+    let value = place_map (λ (x : ℕ × Window). x.1) es i e at in
+    none i (slice_get_within (map (λ (x : ℕ × Window). x.1) es) i e.1 value)
+    (sym (ap (λ ks. slice_index ks i) is.keyed) ∙ key ∙ sym same)))

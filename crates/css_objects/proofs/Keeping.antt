@@ -11,11 +11,11 @@ use Rattle.css_semantics.specs.Clear.{AreApart}
 use Rattle.css_semantics.proofs.Apart.{filter-apart}
 use Rattle.css_record.specs.declared.window.Window as coded
 use Rattle.css_record.specs.Windows.{window, IsWindow}
-use Rattle.css_objects.specs.Ranges.{window_meets}
+use Rattle.css_semantics.specs.WindowRanges.{window_meets}
 use Rattle.css_objects.specs.Ordered.{bases, IsAscending, HasNone}
 use Rattle.css_objects.specs.Found.{Each, IsRow, AreRows}
 use Rattle.css_objects.specs.Table.{Entry, windows, is_written, is_other, without, object, objects, Table, IsBlock, IsTable}
-use Rattle.css_objects.proofs.Ranges.{share_is_rows, share_by, rows_by}
+use Rattle.css_semantics.proofs.WindowRanges.{share_is_rows, share_by, rows_by}
 use Rattle.css_objects.proofs.Searches.{base_at}
 use Rattle.css_objects.proofs.Lists.{map_place, place_map, place_left}
 use Rattle.css_objects.proofs.Probes.{apart_at}

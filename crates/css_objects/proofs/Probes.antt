@@ -18,7 +18,7 @@ use Rattle.css_objects.specs.Ordered.{bases, Stands, HasNone}
 use Rattle.css_objects.specs.Found.{Each, NoneShares, IsLastSharing}
 use Rattle.css_objects.specs.Table.{Entry, Table, windows, object, objects, all_entries, IsTable}
 use Rattle.css_objects.specs.Seen.{ShowsAt, IsShown, Crosses, IsProbe, IsSeen}
-use Rattle.css_objects.proofs.Ranges.{share-sym, share_is_rows, share_by, rows_by}
+use Rattle.css_semantics.proofs.WindowRanges.{share-sym, share_is_rows, share_by, rows_by}
 use Rattle.css_objects.proofs.Searches.{base_at}
 use Rattle.css_objects.proofs.Lists.{any_none, at_place, map_place, place_map, place_left, place_right}
 

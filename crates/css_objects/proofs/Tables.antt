@@ -18,13 +18,13 @@ use Rattle.css_record.specs.declared.window.Window as coded
 use Rattle.css_record.specs.Windows.{window, IsWindow}
 use Rattle.css_objects.specs.declared.ordered.Found.{Found}
 use Rattle.css_objects.specs.declared.version.Held.{Held}
-use Rattle.css_objects.specs.Ranges.{window_meets}
+use Rattle.css_semantics.specs.WindowRanges.{window_meets}
 use Rattle.css_objects.specs.Ordered.{bases, Stands, HasNone, IsOfBase, IsSearch}
 use Rattle.css_objects.specs.Found.{Each, IsRow, AreRows, NoneMeets, IsLastMeeting, NoneShares, IsLastSharing, TakesAtMost}
 use Rattle.css_objects.specs.Table.{Entry, Table, entries, windows, maker, is_written, object, objects, all_entries, IsBlock, IsTable}
-use Rattle.css_objects.proofs.Ranges.{some_is_range, same_test}
+use Rattle.css_semantics.proofs.WindowRanges.{some_is_range, same_test}
 use Rattle.css_objects.proofs.Searches.{base_at}
-use Rattle.css_objects.proofs.Rows.{search_takes}
+use Rattle.css_objects.proofs.OneRowSearches.{search_takes}
 use Rattle.css_objects.proofs.Lists.{any_none, any_one, any_same, any_map, any_filter, at_place, map_place, place_map, place_left, place_right}
 
 -- ---- windows and versions side by side

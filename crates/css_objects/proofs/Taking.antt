@@ -33,7 +33,7 @@ apart-remove [] (suc i) apart = tt
 apart-remove (o ∷ os) zero apart = apart.1
 apart-remove (o ∷ os) (suc i) apart = (All-remove (λ p. share_byte o.window p.window ≡ false) os i apart.0, apart-remove os i apart.1)
 
-filter-remove : {X : Type 0} (p : X → Bool) (xs : List X) (k : ℕ) (x : X) → slice_get xs k ≡ Some x → p x ≡ false → filter p (remove xs k) ≡ filter p xs
+pub filter-remove : {X : Type 0} (p : X → Bool) (xs : List X) (k : ℕ) (x : X) → slice_get xs k ≡ Some x → p x ≡ false → filter p (remove xs k) ≡ filter p xs
 filter-remove p [] k x at fails = absurd (cc)
 filter-remove p (y ∷ xs) zero x at fails =
     let here : p y ≡ false = (let same : y ≡ x = cc in rw same fails) in

@@ -5,7 +5,7 @@ use Rattle.css_record.specs.declared.window.Window.{Window}
 use Rattle.css_record.specs.Windows.{window, IsWindow}
 use Rattle.css_objects.specs.declared.ordered.Found.{Found}
 use Rattle.css_objects.specs.Ordered.{Stands}
-use Rattle.css_objects.specs.Ranges.{window_meets}
+use Rattle.css_semantics.specs.WindowRanges.{window_meets}
 
 -- all windows of a list have a property
 abbrev pub Each : List Window → (Window → Type 0) → Type 0
@@ -30,6 +30,12 @@ pub record IsLastMeeting (windows : List Window) (from to : ℕ) (f : Found) : T
   pub stands : Stands windows f
   pub meets : window_meets (window f.window) from to ≡ true
   pub last : (i : ℕ) (w : Window) → slice_get windows i ≡ Some w → w.base < to → i ≤ f.place
+
+-- the window that is found has one, and has the greatest base of those that do
+pub record IsGreatestMeeting (windows : List Window) (from to : ℕ) (f : Found) : Type 0 where
+  pub stands : Stands windows f
+  pub meets : window_meets (window f.window) from to ≡ true
+  pub greatest : Each windows (λ v. window_meets (window v) from to ≡ true → v.base ≤ f.window.base)
 
 -- no window shares a byte with this one
 abbrev pub NoneShares : List Window → Window → Type 0

@@ -57,6 +57,12 @@ IsProbe t w probes.Nothing = list_any (λ o. share_byte (window w) o.window) (ob
 IsProbe t w (probes.Same p) = (p.window ≡ w) × IsShown t p
 IsProbe t w (probes.Crosses v) = Crosses t w v
 
+-- one shares a byte with the window and none is equal to it
+abbrev pub crosses : Probe → Bool
+crosses probes.Nothing = false
+crosses (probes.Same p) = false
+crosses (probes.Crosses v) = true
+
 -- what is said of a window that was found among those of a list
 abbrev pub IsSeen : List Entry → (f : Found) → Window → Probe → Type 0
 IsSeen es f w probes.Nothing = ⊥

@@ -6,6 +6,8 @@ use Rattle.css_record.specs.declared.window.Window.{Window}
 use Rattle.css_record.specs.Windows.{window, IsWindow}
 use Rattle.css_objects.specs.declared.version.Held.{Held}
 use Rattle.css_objects.specs.declared.version.Held.TheVariants as held
+use Rattle.std.specs.List.{insert}
+use Rattle.css_objects.specs.Ordered.{IsGap, IsAscending}
 use Rattle.css_objects.specs.Found.{Each, AreRows}
 
 -- an object: its window, and its current version
@@ -56,6 +58,13 @@ abbrev pub entries : List Window → List Held → List Entry
 entries [] versions = []
 entries (w ∷ ws) [] = []
 entries (w ∷ ws) (v ∷ vs) = record { window = w; version = v } ∷ entries ws vs
+
+-- an object more, in order of base
+pub record IsInserted (old : List Entry) (w : Window) (version : Held) (new : List Entry) : Type 0 where
+  pub place : ℕ
+  pub gap : IsGap (windows old) place w.base
+  pub is : new ≡ insert old place (record { window = w; version = version })
+  pub ascends : IsAscending (windows new)
 
 -- a window of several rows
 pub record IsBlock (w : Window) : Type 0 where

@@ -1,6 +1,9 @@
 //! The table of pending objects: which windows tasks may still read or write, with the current version of each.
 #![tactic(auto)]
 
+mod argument;
+mod judging;
+mod naming;
 mod ordered;
 mod part;
 mod pending;
@@ -10,6 +13,8 @@ mod table;
 mod version;
 mod window;
 
+pub use argument::{Argument, Dims};
+pub use naming::Named;
 pub use ordered::{Found, Ordered};
 pub use pending::{Pending, Probe, Version};
 pub use steps::Steps;

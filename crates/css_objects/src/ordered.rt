@@ -1,10 +1,11 @@
 //! Windows in order of base.
-ghost use Rattle.std.specs.Prelude.{◌≡◌, ◌+◌, ◌*◌, ◌^◌, ◌<◌, ◌≤◌, ℕ, [], ◌∷◌, length, slice_get, Some, MatchOption};
-ghost use Rattle.std.specs.List.{filter, remove};
+ghost use Rattle.std.specs.Prelude.{◌≡◌, ◌+◌, ◌*◌, ◌^◌, ◌<◌, ◌≤◌, ℕ, [], ◌∷◌, length, slice_get, Some, MatchOption, IfOk, OnErr};
+ghost use Rattle.std.specs.List.{filter, remove, insert};
 ghost use Rattle.css_objects.specs.Table.{is_other};
-ghost use Rattle.css_objects.specs.Ordered.{StandAbove, IsAscending, IsLastBelow, IsOfBase, HasNone, IsSearch};
+ghost use Rattle.css_objects.specs.Ordered.{StandAbove, IsAscending, IsLastBelow, IsOfBase, HasNone, IsSearch, IsGap};
 
 use crate::steps::Steps;
+use css_base::NoMemory;
 use css_record::Window;
 use indexmap::IndexMap;
 use std::alloc::Global;
@@ -145,6 +146,44 @@ impl Ordered {
     {
         let mut steps = Steps::<L>::new(blank);
         self.find(base, &mut steps)
+    }
+
+    /// With a window more, whose base no other has. The answer is its place. `NoMemory` leaves all as it was.
+    pub(crate) fn insert(&mut self, window: Window) -> Result<usize, NoMemory>
+        requires { HasNone self.old window.base }
+        ensures ok { IfOk result (λ place. IsGap self.old place window.base × (self.new ≡ insert self.old place window)) }
+        ensures err { OnErr result (self.new ≡ self.old) }
+        ensures ascends { IsAscending self.new }
+    {
+        let place = self.gap(window.base);
+        let _none = self.windows.shift_insert(place, window.base, window)?;
+        Ok(place)
+    }
+
+    // Where a window of a base that no other has would stand.
+    fn gap(&self, base: u32) -> usize
+        requires { HasNone self.now base }
+        ensures gap { IsGap self.now result base }
+        ensures ascends { IsAscending self.now }
+    {
+        let _count = self.len();
+        self.gap_from::<Brand>(base, Blank::new(1))
+    }
+
+    // The same, with a ledger for its steps.
+    fn gap_from<L: Ledger>(&self, base: u32, blank: Blank) -> usize
+        requires none { HasNone self.now base }
+        requires name { blank.name ≡ L.name }
+        requires parts { blank.parts ≡ L.parts }
+        requires some { 0 < L.parts }
+        ensures { IsGap self.now result base }
+    {
+        let mut steps = Steps::<L>::new(blank);
+        let _count = self.len();
+        match self.last_below(u64::from(base), &mut steps) {
+            Some(f) => f.place + 1,
+            None => 0,
+        }
     }
 
     /// Without any window.

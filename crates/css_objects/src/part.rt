@@ -1,23 +1,28 @@
 //! Objects in order of base.
-ghost use Rattle.std.specs.Prelude.{◌≡◌, ◌+◌, ◌<◌, ◌≤◌, ◌&&◌, ℕ, [], length, slice_get, Some, MatchOption};
+ghost use Rattle.std.specs.Prelude.{◌≡◌, ◌+◌, ◌<◌, ◌≤◌, ◌&&◌, ◌++◌, ℕ, [], length, slice_get, slice_set, Some, None, MatchOption, OnOk, OnErr};
 ghost use Rattle.std.specs.List.{list_any, remove};
 ghost use Rattle.css_record.specs.Windows as records;
 ghost use Rattle.css_objects.specs.Ordered.{HasNone, IsAscending, IsOfBase, IsSearch};
-ghost use Rattle.css_objects.specs.Found.{Each, AreRows, NoneShares, IsLastSharing, TakesAtMost};
-ghost use Rattle.css_objects.specs.Ranges.{window_meets};
-ghost use Rattle.css_objects.specs.Table.{Entry, windows as windows_of, is_written, without, IsBlock};
+ghost use Rattle.css_objects.specs.Found.{Each, AreRows, NoneMeets, IsLastMeeting, IsGreatestMeeting, NoneShares, IsLastSharing, TakesAtMost};
+ghost use Rattle.css_semantics.specs.WindowRanges.{window_meets};
+ghost use Rattle.css_objects.specs.Table.{Entry, windows as windows_of, is_written, without, IsBlock, IsInserted};
 ghost use Rattle.css_objects.specs.Seen.{ShowsAt, IsSeen};
+ghost use Rattle.css_objects.specs.Versions.{versions, made_in, kept_in, left_in};
+ghost use Rattle.std.specs.Vec.Iter.{into_iter_items};
+ghost use Rattle.css_objects.specs.Naming.{version_of};
 
 use crate::ordered::{Found, Ordered};
 use crate::pending::{Pending, Probe, Version};
-use crate::search::{last_sharing_block, last_sharing_row};
+use crate::search::{last_meeting, last_meeting_block, last_sharing_block, last_sharing_row};
 use crate::steps::Steps;
-use crate::version::Held;
+use crate::version::{Held, add_made, keep_all};
 use crate::window::{meets, same};
-use css_record::Window;
+use css_base::{Buffer, NoMemory};
+use css_record::{VersionName, Window};
 use std::alloc::Global;
 use std::marker::Model;
 use std::sync::ledger::Ledger;
+use std::vec::IntoIter;
 
 /// Objects in order of base, each with its current version. Contracts see their list.
 #[derive(Drop)]
@@ -120,6 +125,35 @@ impl Part {
         last_sharing_block(&self.windows, window, steps)
     }
 
+    /// Of windows of one row the last one that has a byte from one address up to another.
+    pub(crate) fn last_row_meeting<L: Ledger>(
+        &self,
+        from: u64,
+        to: u64,
+        steps: &mut Steps<L>,
+    ) -> Option<Found>
+        requires { AreRows (windows_of self.now) }
+        ensures found { MatchOption result (NoneMeets (windows_of self.now) from to) (IsLastMeeting (windows_of self.now) from to) }
+        ensures cost { IsSearch (length self.now) steps.old steps.new }
+    {
+        last_meeting(&self.windows, from, to, steps)
+    }
+
+    /// Of any windows the one of greatest base that has a byte from one address up to another.
+    pub(crate) fn last_block_meeting<L: Ledger>(
+        &self,
+        from: u64,
+        to: u64,
+        steps: &mut Steps<L>,
+    ) -> Option<Found>
+        requires blocks { Each (windows_of self.now) IsBlock }
+        requires some { from < to }
+        ensures found { MatchOption result (NoneMeets (windows_of self.now) from to) (IsGreatestMeeting (windows_of self.now) from to) }
+        ensures cost { steps.new ≤ steps.old + length self.now }
+    {
+        last_meeting_block(&self.windows, from, to, steps)
+    }
+
     /// The window of a base.
     pub(crate) fn find<L: Ledger>(&self, base: u32, steps: &mut Steps<L>) -> Option<Found>
         ensures found { MatchOption result (HasNone (windows_of self.now) base) (IsOfBase (windows_of self.now) base) }
@@ -165,8 +199,57 @@ impl Part {
         }
     }
 
-    // The window of a base, where no steps are counted.
-    fn found(&self, base: u32) -> Option<Found>
+    /// With an object more, whose base no other has. `NoMemory` leaves all as it was.
+    pub(crate) fn insert(&mut self, window: Window, version: Held) -> Result<(), NoMemory>
+        requires { HasNone (windows_of self.old) window.base }
+        ensures ok { OnOk result (IsInserted self.old window version self.new) }
+        ensures err { OnErr result (self.new ≡ self.old) }
+    {
+        self.versions.reserve(1)?;
+        let place = self.windows.insert(window)?;
+        self.versions.insert(place, version)?;
+        Ok(())
+    }
+
+    /// Lends the version of the object of a window.
+    pub(crate) fn held(&self, window: &Window) -> Option<&Held>
+        ensures { MatchOption result (version_of self.now window.now ≡ None) (λ v. version_of self.now window.now ≡ Some v.now) }
+    {
+        let found = self.found(window.base)?;
+        if same(&found.window, window) {
+            Some(&self.versions[found.place])
+        } else {
+            None
+        }
+    }
+
+    /// Gives the object at a place a new version.
+    pub(crate) fn set(&mut self, place: usize, version: Held)
+        requires { place < length self.old }
+        ensures windows { windows_of self.new ≡ windows_of self.old }
+        ensures versions { versions self.new ≡ slice_set (versions self.old) place version }
+    {
+        self.versions[place] = version;
+    }
+
+    /// Appends the names of the versions that tasks make. `NoMemory` may leave some of them appended.
+    pub(crate) fn add_made(&self, names: &mut Vec<VersionName>) -> Result<(), NoMemory>
+        ensures { OnOk result (names.new.items ≡ names.old.items ++ made_in (versions self.now)) }
+    {
+        add_made(&self.versions, names)
+    }
+
+    /// Puts buffers in the places of the versions that tasks make, one after another.
+    pub(crate) fn keep(&mut self, kept: &mut IntoIter<Buffer>)
+        ensures windows { windows_of self.new ≡ windows_of self.old }
+        ensures versions { versions self.new ≡ kept_in (versions self.old) (into_iter_items kept.old) }
+        ensures rest { into_iter_items kept.new ≡ left_in (versions self.old) (into_iter_items kept.old) }
+    {
+        keep_all(&mut self.versions, kept);
+    }
+
+    /// The window of a base, where no steps are counted.
+    pub(crate) fn found(&self, base: u32) -> Option<Found>
         ensures found { MatchOption result (HasNone (windows_of self.now) base) (IsOfBase (windows_of self.now) base) }
         ensures ascends { IsAscending (windows_of self.now) }
     {

@@ -3,6 +3,7 @@ use css_base::Buffer;
 use css_record::Window;
 
 /// The current version of an object.
+#[derive(Drop)]
 pub enum Version<'a> {
     /// What a task makes of its writing parameter of this number.
     Made { task: u64, out: u32 },
@@ -11,6 +12,7 @@ pub enum Version<'a> {
 }
 
 /// A pending object.
+#[derive(Drop)]
 pub struct Pending<'a> {
     pub window: Window,
     /// Whether a task may write it.
@@ -19,6 +21,7 @@ pub struct Pending<'a> {
 }
 
 /// How a window stands to the pending objects.
+#[derive(Drop)]
 pub enum Probe<'a> {
     /// None shares a byte with it.
     Nothing,

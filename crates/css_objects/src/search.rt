@@ -1,14 +1,15 @@
 //! Searches for windows that share bytes.
-ghost use Rattle.std.specs.Prelude.{◌≡◌, ◌+◌, ◌<◌, ◌≤◌, length, MatchOption};
+ghost use Rattle.std.specs.Prelude.{◌≡◌, ◌+◌, ◌<◌, ◌≤◌, length, None, MatchOption};
 ghost use Rattle.std.specs.List.{list_any};
 ghost use Rattle.css_record.specs.Windows as windows;
-ghost use Rattle.css_objects.specs.Ranges.{window_meets};
+ghost use Rattle.css_semantics.specs.WindowRanges.{window_meets};
 ghost use Rattle.css_objects.specs.Ordered.{IsSearch};
-ghost use Rattle.css_objects.specs.Found.{Each, AreRows, NoneMeets, IsLastMeeting, NoneShares, IsLastSharing, TakesAtMost};
+ghost use Rattle.css_objects.specs.Stored.{IsLater};
+ghost use Rattle.css_objects.specs.Found.{Each, AreRows, NoneMeets, IsLastMeeting, IsGreatestMeeting, NoneShares, IsLastSharing, TakesAtMost};
 
 use crate::ordered::{Found, Ordered};
 use crate::steps::Steps;
-use crate::window::{row_base, row_end, shares};
+use crate::window::{meets, row_base, row_end, shares};
 use css_record::Window;
 use std::sync::ledger::Ledger;
 
@@ -88,4 +89,53 @@ pub(crate) fn last_sharing_block<L: Ledger>(
         }
     }
     None
+}
+
+/// Of any windows the one of greatest base that has a byte from one address up to another.
+pub(crate) fn last_meeting_block<L: Ledger>(
+    blocks: &Ordered,
+    from: u64,
+    to: u64,
+    steps: &mut Steps<L>,
+) -> Option<Found>
+    requires blocks { Each blocks.now (λ w. windows.IsWindow (windows.window w)) }
+    requires some { from < to }
+    ensures found { MatchOption result (NoneMeets blocks.now from to) (IsGreatestMeeting blocks.now from to) }
+    ensures cost { steps.new ≤ steps.old + length blocks.now }
+{
+    let mut place = blocks.len();
+    while place > 0 {
+        place -= 1;
+        let window = *blocks.at(place, steps);
+        if meets(&window, from, to) {
+            return Some(Found { place, window });
+        }
+    }
+    None
+}
+
+/// Where a window that was found stands: among those of one row, or among the others.
+#[derive(Clone, Copy)]
+pub(crate) enum Place {
+    Row(Found),
+    Block(Found),
+}
+
+/// The one of greater base of those that were found.
+pub(crate) fn later(row: Option<Found>, block: Option<Found>) -> Option<Place>
+    ensures { MatchOption result ((row ≡ None) × (block ≡ None)) (IsLater row block) }
+{
+    match row {
+        None => Some(Place::Block(block?)),
+        Some(r) => match block {
+            None => Some(Place::Row(r)),
+            Some(b) => {
+                if r.window.base < b.window.base {
+                    Some(Place::Block(b))
+                } else {
+                    Some(Place::Row(r))
+                }
+            }
+        },
+    }
 }

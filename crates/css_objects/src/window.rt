@@ -1,13 +1,13 @@
 //! Which bytes windows share.
 ghost use Rattle.std.specs.Prelude.{◌≡◌, ◌≢◌, true, false, ◌+◌, ◌*◌, ◌^◌, ◌<◌, ◌≤◌};
 ghost use Rattle.css_semantics.specs.Tasks.{is_same_window};
-ghost use Rattle.css_semantics.specs.Rules.{share_byte};
+ghost use Rattle.css_semantics.specs.Rules.{share_byte, overlap};
 ghost use Rattle.css_record.specs.Windows as windows;
-ghost use Rattle.css_objects.specs.Ranges.{window_meets, rows_share};
+ghost use Rattle.css_semantics.specs.WindowRanges.{window_meets, rows_share};
 
 use css_record::Window;
 
-#[tactic(auto, using(crate::proofs::Ranges::row_within))]
+#[tactic(auto, using(crate::proofs::EnoughRows::row_within))]
 /// The address behind the last byte of a window's row.
 pub(crate) fn row_end(window: &Window, row: u32) -> u64
     requires is_window { windows.IsWindow (windows.window window.now) }
@@ -17,7 +17,7 @@ pub(crate) fn row_end(window: &Window, row: u32) -> u64
     row_base(window, row) + u64::from(window.width)
 }
 
-#[tactic(auto, using(crate::proofs::Ranges::row_within))]
+#[tactic(auto, using(crate::proofs::EnoughRows::row_within))]
 /// The address of the first byte of a window's row.
 pub(crate) fn row_base(window: &Window, row: u32) -> u64
     requires is_window { windows.IsWindow (windows.window window.now) }
@@ -68,6 +68,15 @@ pub(crate) fn shares(a: &Window, b: &Window) -> bool
     } else {
         rows_share_with(b, a)
     }
+}
+
+/// Whether two windows share a byte and aren't equal.
+pub(crate) fn overlaps(a: &Window, b: &Window) -> bool
+    requires first { windows.IsWindow (windows.window a.now) }
+    requires second { windows.IsWindow (windows.window b.now) }
+    ensures { result ≡ overlap (windows.window a.now) (windows.window b.now) }
+{
+    shares(a, b) && !same(a, b)
 }
 
 // Whether a row of one window has a byte of another one.

@@ -1,5 +1,5 @@
 use Rattle.std.proofs.Common.{arith}
-use Rattle.css_objects.proofs.Rows.{none_meets, none_before, last_meets}
+use Rattle.css_objects.proofs.OneRowSearches.{none_meets, none_before, last_meets}
 use Rattle.css_objects.proofs.search.last_meeting.Goals as goal
 
 pub returns-in_err-found-clause-found : goal.returns-in_err-found-clause-found

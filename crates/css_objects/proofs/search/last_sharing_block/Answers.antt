@@ -1,6 +1,6 @@
 use Rattle.std.proofs.Common.{◌≡◌, ◌+◌, ◌-◌, subst, sym, ◌∙◌, length, ℕ, refl, arith}
 use Rattle.css_record.specs.Windows.{window}
-use Rattle.css_objects.proofs.Rows.{NoneSharesFrom, shares_end, shares_more, shares_all, shares_last}
+use Rattle.css_objects.proofs.OneRowSearches.{NoneSharesFrom, shares_end, shares_more, shares_all, shares_last}
 use Rattle.css_objects.proofs.search.last_sharing_block.Goals as goal
 
 pub loop-place-init : goal.loop-place-init

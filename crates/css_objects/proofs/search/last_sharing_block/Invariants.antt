@@ -1,5 +1,5 @@
 use Rattle.std.proofs.Common.{◌+◌, ◌-◌, ◌≤◌, length}
-use Rattle.css_objects.proofs.Rows.{NoneSharesFrom}
+use Rattle.css_objects.proofs.OneRowSearches.{NoneSharesFrom}
 use Rattle.css_objects.proofs.search.last_sharing_block.Given as goal
 
 abbrev pub invariant-loop-place : goal.invariant-loop-place

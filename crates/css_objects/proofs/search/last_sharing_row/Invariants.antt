@@ -1,5 +1,5 @@
 use Rattle.std.proofs.Common.{◌≤◌, length}
-use Rattle.css_objects.proofs.Rows.{NoneFrom, RowsTake}
+use Rattle.css_objects.proofs.OneRowSearches.{NoneFrom, RowsTake}
 use Rattle.css_objects.proofs.search.last_sharing_row.Given as goal
 
 abbrev pub invariant-loop-row : goal.invariant-loop-row

@@ -1,6 +1,7 @@
 use Rattle.std.proofs.Common.{inl, inr, sym, arith}
 use Rattle.css_record.specs.Windows.{window}
-use Rattle.css_objects.proofs.Ranges.{none_below, reach}
+use Rattle.css_semantics.proofs.WindowRanges.{none_below}
+use Rattle.css_objects.proofs.EnoughRows.{reach}
 use Rattle.css_objects.proofs.window.meets.Goals as goal
 use Rattle.css_objects.proofs.window.meets.Goals.{then-behind-from, else-behind-from}
 

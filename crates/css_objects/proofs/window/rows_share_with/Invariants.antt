@@ -1,7 +1,7 @@
 use Rattle.std.proofs.Common.{◌≡◌}
 use Rattle.css_record.specs.Windows.{window}
-use Rattle.css_objects.specs.Ranges.{rows_share}
-use Rattle.css_objects.proofs.Ranges.{rows_left}
+use Rattle.css_semantics.specs.WindowRanges.{rows_share}
+use Rattle.css_semantics.proofs.WindowRanges.{rows_left}
 use Rattle.css_objects.proofs.window.rows_share_with.Given as goal
 
 abbrev pub invariant-loop-row : goal.invariant-loop-row

@@ -1,6 +1,6 @@
 use Rattle.std.proofs.Common.{sym, ◌∙◌}
 use Rattle.css_record.specs.Windows.{window}
-use Rattle.css_objects.proofs.Ranges.{share_is_rows, share-sym}
+use Rattle.css_semantics.proofs.WindowRanges.{share_is_rows, share-sym}
 use Rattle.css_objects.proofs.window.shares.Goals as goal
 
 pub returns-then-a-b : goal.returns-then-a-b

@@ -11,10 +11,10 @@ use Rattle.css_semantics.specs.Rules.{share_byte}
 use Rattle.css_record.specs.declared.window.Window as coded
 use Rattle.css_record.specs.Windows.{window, IsWindow}
 use Rattle.css_objects.specs.declared.ordered.Found.{Found}
-use Rattle.css_objects.specs.Ranges.{row_meets, window_meets, rows_share}
+use Rattle.css_semantics.specs.WindowRanges.{row_meets, window_meets, rows_share}
 use Rattle.css_objects.specs.Ordered.{bases, IsAscending, StandAbove, Stands, IsLastBelow, IsSearch}
 use Rattle.css_objects.specs.Found.{Each, IsRow, AreRows, NoneMeets, IsLastMeeting, NoneShares, IsLastSharing, TakesAtMost}
-use Rattle.css_objects.proofs.Ranges.{rows_give, rows_by, none_below, share_is_rows, share_gives, share_by}
+use Rattle.css_semantics.proofs.WindowRanges.{rows_give, rows_by, none_below, share_is_rows, share_gives, share_by}
 use Rattle.css_objects.proofs.Searches.{base_at}
 
 -- ---- one row
@@ -29,7 +29,7 @@ row_gives w from to one meets =
 pub row_by : (w : coded.Window) (from to : ℕ) → w.rows ≡ 1 → w.base < to → from < w.base + w.width → window_meets (window w) from to ≡ true
 row_by w from to one below above = rows_by w.rows w.base w.width w.stride from to 0 (omega (arith, one)) (omega arith) (omega arith)
 
-same_place : (windows : List coded.Window) (i : ℕ) (v w : coded.Window) → slice_get windows i ≡ Some v → slice_get windows i ≡ Some w → v ≡ w
+pub same_place : (windows : List coded.Window) (i : ℕ) (v w : coded.Window) → slice_get windows i ≡ Some v → slice_get windows i ≡ Some w → v ≡ w
 same_place windows i v w of_v of_w = cc
 
 module _ (windows : List coded.Window) (rows : AreRows windows) (from to : ℕ) where

@@ -1,0 +1,5 @@
+//! Tests of the table of pending objects, over its public calls.
+#![tactic(auto)]
+
+#[cfg(test)]
+mod objects;
