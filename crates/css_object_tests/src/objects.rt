@@ -116,9 +116,21 @@ fn many<L: Ledger, R: Abort>(rt: &R, alloc: Global, steps: &mut Steps<L>) -> Res
         let argument = ints(alloc, 4_096 + 8 * number, &[1], Direction::In)?;
         let _named = let_in(rt, &mut table, alloc, argument, u64::from(number), steps)?;
     }
-    check(rt, "equal", stands(&table, Window::plain(12_088, 4), steps) == 1);
-    check(rt, "nothing", stands(&table, Window::plain(12_092, 4), steps) == 0);
-    check(rt, "crosses", stands(&table, Window::plain(12_084, 8), steps) == 12_088);
+    check(
+        rt,
+        "equal",
+        stands(&table, Window::plain(12_088, 4), steps) == 1,
+    );
+    check(
+        rt,
+        "nothing",
+        stands(&table, Window::plain(12_092, 4), steps) == 0,
+    );
+    check(
+        rt,
+        "crosses",
+        stands(&table, Window::plain(12_084, 8), steps) == 12_088,
+    );
     check(rt, "last", table.object(999).is_some());
     check(rt, "none", table.object(1_000).is_none());
     Ok(())
@@ -135,14 +147,30 @@ fn renamed<L: Ledger, R: Abort>(
     check(rt, "needs", table.needs_snapshot(window, steps));
     let read = ints(alloc, 4_096, &[1], Direction::In)?;
     let first = let_in(rt, &mut table, alloc, read, 0, steps)?;
-    check(rt, "read", first.inputs.as_slice() == [VersionName::Given(0)].as_slice());
-    check(rt, "not renamed", first.renamed.as_slice() == [false].as_slice());
+    check(
+        rt,
+        "read",
+        first.inputs.as_slice() == [VersionName::Given(0)].as_slice(),
+    );
+    check(
+        rt,
+        "not renamed",
+        first.renamed.as_slice() == [false].as_slice(),
+    );
     check(rt, "is there", !table.needs_snapshot(window, steps));
     check(rt, "may load", table.allows_load(4_096, 4, steps));
     let both = ints(alloc, 4_096, &[1], Direction::InOut)?;
     let second = let_in(rt, &mut table, alloc, both, 1, steps)?;
-    check(rt, "read first", second.inputs.as_slice() == [VersionName::Given(0)].as_slice());
-    check(rt, "renamed", second.renamed.as_slice() == [true].as_slice());
+    check(
+        rt,
+        "read first",
+        second.inputs.as_slice() == [VersionName::Given(0)].as_slice(),
+    );
+    check(
+        rt,
+        "renamed",
+        second.renamed.as_slice() == [true].as_slice(),
+    );
     check(rt, "no producer", second.producers.is_empty());
     check(rt, "may not load", !table.allows_load(4_099, 1, steps));
     let again = ints(alloc, 4_096, &[1], Direction::In)?;
@@ -151,14 +179,22 @@ fn renamed<L: Ledger, R: Abort>(
     check(rt, "made", third.inputs.as_slice() == [made].as_slice());
     check(rt, "producer", third.producers.as_slice() == [1].as_slice());
     check(rt, "nothing given", third.given.is_empty());
-    check(rt, "is made", table.made(alloc)?.as_slice() == [made].as_slice());
+    check(
+        rt,
+        "is made",
+        table.made(alloc)?.as_slice() == [made].as_slice(),
+    );
     let mut kept = Vec::new(alloc);
     kept.push(Buffer::new(alloc, Vec::from_slice(alloc, b"abcd")?)?)?;
     table.regenerated(kept);
     check(rt, "is kept", table.made(alloc)?.is_empty());
     let last = ints(alloc, 4_096, &[1], Direction::In)?;
     let fourth = let_in(rt, &mut table, alloc, last, 3, steps)?;
-    check(rt, "same producer", fourth.producers.as_slice() == [1].as_slice());
+    check(
+        rt,
+        "same producer",
+        fourth.producers.as_slice() == [1].as_slice(),
+    );
     check(rt, "kept bytes", first_is(&fourth.given, b"abcd"));
     table.waited(4_096);
     check(rt, "waited", table.pending_at(4_096, steps).is_none());
@@ -198,9 +234,21 @@ fn stored<L: Ledger, R: Abort>(
     check(rt, "second", second == Some(Window::plain(4_100, 4)));
     let first = store(rt, &mut table, 4_096, 8, steps);
     check(rt, "first", first == Some(Window::plain(4_096, 4)));
-    check(rt, "no more", store(rt, &mut table, 4_096, 8, steps).is_none());
-    check(rt, "third", stands(&table, Window::plain(4_104, 4), steps) == 1);
-    check(rt, "frame", !table.leaves_frame(Window::plain(4_100, 8), steps));
+    check(
+        rt,
+        "no more",
+        store(rt, &mut table, 4_096, 8, steps).is_none(),
+    );
+    check(
+        rt,
+        "third",
+        stands(&table, Window::plain(4_104, 4), steps) == 1,
+    );
+    check(
+        rt,
+        "frame",
+        !table.leaves_frame(Window::plain(4_100, 8), steps),
+    );
     Ok(())
 }
 
@@ -215,8 +263,16 @@ fn blocks<L: Ledger, R: Abort>(
     let first = let_in(rt, &mut table, alloc, left, 0, steps)?;
     let right = ints(alloc, 4_112, &[8, 4, 8], Direction::InOut)?;
     let second = let_in(rt, &mut table, alloc, right, 1, steps)?;
-    check(rt, "other objects", second.renamed.as_slice() == [false].as_slice());
-    check(rt, "no producer", first.producers.is_empty() && second.producers.is_empty());
+    check(
+        rt,
+        "other objects",
+        second.renamed.as_slice() == [false].as_slice(),
+    );
+    check(
+        rt,
+        "no producer",
+        first.producers.is_empty() && second.producers.is_empty(),
+    );
     let shifted = ints(alloc, 4_104, &[8, 4, 8], Direction::InOut)?;
     match enter(&mut table, alloc, shifted, 2, steps)? {
         Ok(_) => check(rt, "shifted", false),
@@ -236,7 +292,11 @@ fn blocks<L: Ledger, R: Abort>(
     check(rt, "crosses", stands(&table, crossing, steps) == 4_112);
     let whole = ints(alloc, 8_192, &[8, 8, 8], Direction::In)?;
     let _named = let_in(rt, &mut table, alloc, whole, 2, steps)?;
-    check(rt, "one object", stands(&table, Window::plain(8_192, 256), steps) == 1);
+    check(
+        rt,
+        "one object",
+        stands(&table, Window::plain(8_192, 256), steps) == 1,
+    );
     Ok(())
 }
 
