@@ -4,6 +4,7 @@ use crate::checks::check_row;
 use css_isa::{
     Asked, Conversion, Mark, Narrow, Op, ShiftWidth, Worked, byte_count, effect, goes_on, needed,
 };
+use std::mem::size_of;
 
 // What an instruction does over a frame at 4096 with these cells, of which the top is the last; none where it lacks one.
 fn worked(op: Op, cells: &[u64]) -> Option<Worked> {
@@ -720,4 +721,9 @@ fn what_is_asked(rt: HostRuntime) {
     for (row, (op, want)) in ASKED.iter().enumerate() {
         check_row(&rt, row, number(*op) == *want);
     }
+}
+
+#[test]
+fn instructions_are_small(rt: HostRuntime) {
+    check_row(&rt, 0, size_of::<Op>() <= 16);
 }
