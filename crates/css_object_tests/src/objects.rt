@@ -90,14 +90,6 @@ fn check(rt: &impl Abort, words: &str, is_so: bool) {
     assert!(rt; is_so, "{words}");
 }
 
-// Whether the first of some buffers has these bytes.
-fn first_is(given: &[Buffer], bytes: &[u8]) -> bool {
-    match given.first() {
-        Some(b) => b.bytes() == bytes,
-        None => false,
-    }
-}
-
 // How a window stands: 0 where nothing is met, 1 where an object is equal, and else the base of the one that is crossed.
 fn stands<L: Ledger>(table: &ObjectTable, window: Window, steps: &mut Steps<L>) -> u32
     requires { records.IsWindow (records.window window) }
@@ -109,101 +101,147 @@ fn stands<L: Ledger>(table: &ObjectTable, window: Window, steps: &mut Steps<L>) 
     }
 }
 
+// Enters a call that must be let through, of one int.
+fn one<L: Ledger>(
+    rt: &impl Abort,
+    table: &mut ObjectTable,
+    alloc: Global,
+    call: (u64, u32, Direction),
+    steps: &mut Steps<L>,
+) -> Result<(), NoMemory> {
+    let (number, base, direction) = call;
+    let argument = ints(alloc, base, &[1], direction)?;
+    let _named = let_in(rt, table, alloc, argument, number, steps)?;
+    Ok(())
+}
+
 // 1,000 objects of four bytes, eight bytes apart.
-fn many<L: Ledger, R: Abort>(rt: &R, alloc: Global, steps: &mut Steps<L>) -> Result<(), NoMemory> {
+fn many<L: Ledger>(
+    rt: &impl Abort,
+    alloc: Global,
+    steps: &mut Steps<L>,
+) -> Result<ObjectTable, NoMemory> {
     let mut table = ObjectTable::new(alloc);
     for number in 0..1_000u32 {
-        let argument = ints(alloc, 4_096 + 8 * number, &[1], Direction::In)?;
-        let _named = let_in(rt, &mut table, alloc, argument, u64::from(number), steps)?;
+        let call = (u64::from(number), 4_096 + 8 * number, Direction::In);
+        one(rt, &mut table, alloc, call, steps)?;
     }
-    check(
-        rt,
-        "equal",
-        stands(&table, Window::plain(12_088, 4), steps) == 1,
-    );
-    check(
-        rt,
-        "nothing",
-        stands(&table, Window::plain(12_092, 4), steps) == 0,
-    );
-    check(
-        rt,
-        "crosses",
-        stands(&table, Window::plain(12_084, 8), steps) == 12_088,
-    );
+    Ok(table)
+}
+
+fn probes<L: Ledger>(
+    rt: &impl Abort,
+    alloc: Global,
+    steps: &mut Steps<L>,
+) -> Result<(), NoMemory> {
+    let table = many(rt, alloc, steps)?;
+    check(rt, "equal", stands(&table, Window::plain(12_088, 4), steps) == 1);
+    check(rt, "nothing", stands(&table, Window::plain(12_092, 4), steps) == 0);
+    check(rt, "crosses", stands(&table, Window::plain(12_084, 8), steps) == 12_088);
     check(rt, "last", table.object(999).is_some());
     check(rt, "none", table.object(1_000).is_none());
     Ok(())
 }
 
-// One window that is read, then written, and then read again.
-fn renamed<L: Ledger, R: Abort>(
-    rt: &R,
+// What a call of one int at 4096 is named.
+struct Row {
+    number: u64,
+    direction: Direction,
+    input: VersionName,
+    renamed: bool,
+    producer: Option<u64>,
+}
+
+const GIVEN: VersionName = VersionName::Given(0);
+
+const MADE: VersionName = VersionName::Made { task: 1, out: 0 };
+
+// It is read, then written, and then read again.
+static ROWS: [Row; 3] = [
+    Row {
+        number: 0,
+        direction: Direction::In,
+        input: GIVEN,
+        renamed: false,
+        producer: None,
+    },
+    Row {
+        number: 1,
+        direction: Direction::InOut,
+        input: GIVEN,
+        renamed: true,
+        producer: None,
+    },
+    Row {
+        number: 2,
+        direction: Direction::In,
+        input: MADE,
+        renamed: false,
+        producer: Some(1),
+    },
+];
+
+// Once its bytes are there they are given, and are still that task's.
+static KEPT: Row = Row {
+    number: 3,
+    direction: Direction::In,
+    input: GIVEN,
+    renamed: false,
+    producer: Some(1),
+};
+
+fn is_row(named: &Named, row: &Row) -> bool {
+    let input = named.inputs.first() == Some(&row.input);
+    let renamed = named.renamed.first() == Some(&row.renamed);
+    let producer = named.producers.first().copied() == row.producer;
+    input && renamed && producer
+}
+
+fn entered<L: Ledger>(
+    rt: &impl Abort,
+    table: &mut ObjectTable,
+    alloc: Global,
+    row: &Row,
+    steps: &mut Steps<L>,
+) -> Result<(), NoMemory> {
+    let argument = ints(alloc, 4_096, &[1], row.direction)?;
+    let named = let_in(rt, table, alloc, argument, row.number, steps)?;
+    check(rt, "row", is_row(&named, row));
+    Ok(())
+}
+
+// Puts bytes in the place of the one version that a task makes.
+fn keep(rt: &impl Abort, table: &mut ObjectTable, alloc: Global) -> Result<(), NoMemory> {
+    let mut kept = Vec::new(alloc);
+    kept.push(Buffer::new(alloc, Vec::from_slice(alloc, b"abcd")?)?)?;
+    check(rt, "made", table.made(alloc)?.len() == 1);
+    table.regenerated(kept);
+    check(rt, "kept", table.made(alloc)?.is_empty());
+    Ok(())
+}
+
+fn versions<L: Ledger>(
+    rt: &impl Abort,
     alloc: Global,
     steps: &mut Steps<L>,
 ) -> Result<(), NoMemory> {
     let mut table = ObjectTable::new(alloc);
-    let window = Window::plain(4_096, 4);
-    check(rt, "needs", table.needs_snapshot(window, steps));
-    let read = ints(alloc, 4_096, &[1], Direction::In)?;
-    let first = let_in(rt, &mut table, alloc, read, 0, steps)?;
-    check(
-        rt,
-        "read",
-        first.inputs.as_slice() == [VersionName::Given(0)].as_slice(),
-    );
-    check(
-        rt,
-        "not renamed",
-        first.renamed.as_slice() == [false].as_slice(),
-    );
-    check(rt, "is there", !table.needs_snapshot(window, steps));
-    check(rt, "may load", table.allows_load(4_096, 4, steps));
-    let both = ints(alloc, 4_096, &[1], Direction::InOut)?;
-    let second = let_in(rt, &mut table, alloc, both, 1, steps)?;
-    check(
-        rt,
-        "read first",
-        second.inputs.as_slice() == [VersionName::Given(0)].as_slice(),
-    );
-    check(
-        rt,
-        "renamed",
-        second.renamed.as_slice() == [true].as_slice(),
-    );
-    check(rt, "no producer", second.producers.is_empty());
-    check(rt, "may not load", !table.allows_load(4_099, 1, steps));
-    let again = ints(alloc, 4_096, &[1], Direction::In)?;
-    let third = let_in(rt, &mut table, alloc, again, 2, steps)?;
-    let made = VersionName::Made { task: 1, out: 0 };
-    check(rt, "made", third.inputs.as_slice() == [made].as_slice());
-    check(rt, "producer", third.producers.as_slice() == [1].as_slice());
-    check(rt, "nothing given", third.given.is_empty());
-    check(
-        rt,
-        "is made",
-        table.made(alloc)?.as_slice() == [made].as_slice(),
-    );
-    let mut kept = Vec::new(alloc);
-    kept.push(Buffer::new(alloc, Vec::from_slice(alloc, b"abcd")?)?)?;
-    table.regenerated(kept);
-    check(rt, "is kept", table.made(alloc)?.is_empty());
-    let last = ints(alloc, 4_096, &[1], Direction::In)?;
-    let fourth = let_in(rt, &mut table, alloc, last, 3, steps)?;
-    check(
-        rt,
-        "same producer",
-        fourth.producers.as_slice() == [1].as_slice(),
-    );
-    check(rt, "kept bytes", first_is(&fourth.given, b"abcd"));
+    check(rt, "needs", table.needs_snapshot(Window::plain(4_096, 4), steps));
+    for row in &ROWS {
+        entered(rt, &mut table, alloc, row, steps)?;
+    }
+    check(rt, "there", !table.needs_snapshot(Window::plain(4_096, 4), steps));
+    check(rt, "load", !table.allows_load(4_099, 1, steps));
+    keep(rt, &mut table, alloc)?;
+    entered(rt, &mut table, alloc, &KEPT, steps)?;
     table.waited(4_096);
     check(rt, "waited", table.pending_at(4_096, steps).is_none());
     Ok(())
 }
 
 // What main's store of so many bytes takes.
-fn store<L: Ledger, R: Abort>(
-    rt: &R,
+fn store<L: Ledger>(
+    rt: &impl Abort,
     table: &mut ObjectTable,
     address: u32,
     count: u32,
@@ -216,72 +254,68 @@ fn store<L: Ledger, R: Abort>(
     None
 }
 
+// Three ints that are read, and a fourth one that is written.
+static INTS: [(u64, u32, Direction); 4] = [
+    (0, 4_096, Direction::In),
+    (1, 4_100, Direction::In),
+    (2, 4_104, Direction::In),
+    (3, 4_108, Direction::Out),
+];
+
 // A store of eight bytes takes two objects that are only read, and no third one beside them.
-fn stored<L: Ledger, R: Abort>(
-    rt: &R,
+fn stores<L: Ledger>(
+    rt: &impl Abort,
     alloc: Global,
     steps: &mut Steps<L>,
 ) -> Result<(), NoMemory> {
     let mut table = ObjectTable::new(alloc);
-    for (number, base) in [(0, 4_096), (1, 4_100), (2, 4_104)] {
-        let argument = ints(alloc, base, &[1], Direction::In)?;
-        let _named = let_in(rt, &mut table, alloc, argument, number, steps)?;
+    for call in INTS {
+        one(rt, &mut table, alloc, call, steps)?;
     }
-    let written = ints(alloc, 4_108, &[1], Direction::Out)?;
-    let _named = let_in(rt, &mut table, alloc, written, 3, steps)?;
     check(rt, "no store", !table.allows_store(4_104, 8, steps));
-    let second = store(rt, &mut table, 4_096, 8, steps);
-    check(rt, "second", second == Some(Window::plain(4_100, 4)));
-    let first = store(rt, &mut table, 4_096, 8, steps);
-    check(rt, "first", first == Some(Window::plain(4_096, 4)));
-    check(
-        rt,
-        "no more",
-        store(rt, &mut table, 4_096, 8, steps).is_none(),
-    );
-    check(
-        rt,
-        "third",
-        stands(&table, Window::plain(4_104, 4), steps) == 1,
-    );
-    check(
-        rt,
-        "frame",
-        !table.leaves_frame(Window::plain(4_100, 8), steps),
-    );
+    for taken in [Some(4_100), Some(4_096), None] {
+        let window = store(rt, &mut table, 4_096, 8, steps);
+        check(rt, "taken", window.map(|w| w.base) == taken);
+    }
+    check(rt, "third", stands(&table, Window::plain(4_104, 4), steps) == 1);
+    check(rt, "frame", !table.leaves_frame(Window::plain(4_100, 8), steps));
     Ok(())
 }
 
-// Two blocks of a matrix of 8 rows of 8 ints stand side by side; one that is shifted by two columns meets both.
-fn blocks<L: Ledger, R: Abort>(
-    rt: &R,
+// Two blocks of a matrix of 8 rows of 8 ints stand side by side; one that is shifted by two columns meets both, and one that is wider
+// than its stride is none. A matrix as a block is one row.
+static BLOCKS: [(u32, [i64; 3], Option<Rule>); 5] = [
+    (4_096, [8, 4, 8], None),
+    (4_112, [8, 4, 8], None),
+    (4_104, [8, 4, 8], Some(Rule::PartialOverlap)),
+    (4_104, [8, 9, 8], Some(Rule::Dimension)),
+    (8_192, [8, 8, 8], None),
+];
+
+// The rule that a call of one block breaks.
+fn broken<L: Ledger>(
+    table: &mut ObjectTable,
+    alloc: Global,
+    base: u32,
+    dimensions: &[i64],
+    steps: &mut Steps<L>,
+) -> Result<Option<Rule>, NoMemory> {
+    let argument = ints(alloc, base, dimensions, Direction::InOut)?;
+    match enter(table, alloc, argument, 0, steps)? {
+        Ok(_) => Ok(None),
+        Err(rule) => Ok(Some(rule)),
+    }
+}
+
+fn blocks<L: Ledger>(
+    rt: &impl Abort,
     alloc: Global,
     steps: &mut Steps<L>,
 ) -> Result<(), NoMemory> {
     let mut table = ObjectTable::new(alloc);
-    let left = ints(alloc, 4_096, &[8, 4, 8], Direction::InOut)?;
-    let first = let_in(rt, &mut table, alloc, left, 0, steps)?;
-    let right = ints(alloc, 4_112, &[8, 4, 8], Direction::InOut)?;
-    let second = let_in(rt, &mut table, alloc, right, 1, steps)?;
-    check(
-        rt,
-        "other objects",
-        second.renamed.as_slice() == [false].as_slice(),
-    );
-    check(
-        rt,
-        "no producer",
-        first.producers.is_empty() && second.producers.is_empty(),
-    );
-    let shifted = ints(alloc, 4_104, &[8, 4, 8], Direction::InOut)?;
-    match enter(&mut table, alloc, shifted, 2, steps)? {
-        Ok(_) => check(rt, "shifted", false),
-        Err(rule) => check(rt, "overlap", rule == Rule::PartialOverlap),
-    }
-    let wide = ints(alloc, 4_104, &[8, 9, 8], Direction::InOut)?;
-    match enter(&mut table, alloc, wide, 2, steps)? {
-        Ok(_) => check(rt, "wide", false),
-        Err(rule) => check(rt, "dimension", rule == Rule::Dimension),
+    for (base, dimensions, rule) in BLOCKS {
+        let answer = broken(&mut table, alloc, base, &dimensions, steps)?;
+        check(rt, "block", answer == rule);
     }
     let crossing = Window {
         base: 4_104,
@@ -290,13 +324,7 @@ fn blocks<L: Ledger, R: Abort>(
         stride: 32,
     };
     check(rt, "crosses", stands(&table, crossing, steps) == 4_112);
-    let whole = ints(alloc, 8_192, &[8, 8, 8], Direction::In)?;
-    let _named = let_in(rt, &mut table, alloc, whole, 2, steps)?;
-    check(
-        rt,
-        "one object",
-        stands(&table, Window::plain(8_192, 256), steps) == 1,
-    );
+    check(rt, "one object", stands(&table, Window::plain(8_192, 256), steps) == 1);
     Ok(())
 }
 
@@ -306,9 +334,9 @@ fn all<L: Ledger, R: Abort>(rt: &R, alloc: Global, blank: Blank) -> Result<(), N
     requires some { 0 < L.parts }
 {
     let mut steps = Steps::<L>::new(blank);
-    many(rt, alloc, &mut steps)?;
-    renamed(rt, alloc, &mut steps)?;
-    stored(rt, alloc, &mut steps)?;
+    probes(rt, alloc, &mut steps)?;
+    versions(rt, alloc, &mut steps)?;
+    stores(rt, alloc, &mut steps)?;
     blocks(rt, alloc, &mut steps)
 }
 
