@@ -12,7 +12,8 @@ use Rattle.css_semantics.specs.Plain.{plain}
 use Rattle.css_semantics.specs.Tasks.{makes_tasks}
 use Rattle.css_core.specs.Erases.{Erases}
 use Rattle.css_core.proofs.StaysInside.{makes_behind_load}
-use Rattle.css_core.proofs.MoreFuel.{Grows, grows_then}
+use Rattle.css_semantics.specs.Fronts.{Grows}
+use Rattle.css_semantics.proofs.Growth.{grows_then}
 use Rattle.css_semantics.specs.Erased.{IsErased}
 use Rattle.css_core.proofs.Kept.{Making}
 

@@ -16,11 +16,12 @@ use Rattle.css_semantics.specs.Verdict.{ImageKind, OfBarrier, OfFinish, OfWait, 
 use Rattle.css_semantics.proofs.Tapes.{output-append}
 use Rattle.css_core.specs.Core.{Program}
 use Rattle.css_core.specs.Functions.{source}
-use Rattle.css_core.specs.Fuel.{Extends}
+use Rattle.css_semantics.specs.Fronts.{Extends}
 use Rattle.css_core.specs.Without.{without_tasks, IsQuietProgram}
 use Rattle.css_semantics.specs.Plain.{plain, entries}
 use Rattle.css_semantics.specs.Erased.{IsPassed, IsErased, Answers}
-use Rattle.css_core.proofs.MoreFuel.{Grows, extends_source}
+use Rattle.css_semantics.specs.Fronts.{Grows}
+use Rattle.css_core.proofs.MoreFuel.{extends_source}
 use Rattle.css_semantics.proofs.PlainTapes.{same_output}
 use Rattle.css_semantics.specs.Points.{Point, points}
 use Rattle.css_semantics.proofs.Points.{passed_all, passed_older, all_along}

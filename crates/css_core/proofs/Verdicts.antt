@@ -9,7 +9,7 @@ use Rattle.css_semantics.specs.Verdict.{Verdict, judged_in, verdict}
 use Rattle.css_semantics.specs.Flat.{FlatState}
 use Rattle.css_core.specs.Core.{Program}
 use Rattle.css_core.specs.Functions.{source}
-use Rattle.css_core.specs.Fuel.{Extends}
+use Rattle.css_semantics.specs.Fronts.{Extends}
 use Rattle.css_core.proofs.MoreFuel.{extends_source}
 use Rattle.css_core.proofs.TwoMeters.{apart_never_tired}
 use Rattle.css_core.proofs.JudgedUnits.{main_left, task_left, judged_spends}

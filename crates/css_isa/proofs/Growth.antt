@@ -8,7 +8,8 @@ use Rattle.css_isa.specs.Steps.{State, Halt, Step, Moves, Requests, Notifies, Fa
 use Rattle.css_semantics.specs.Tasks.{makes_tasks}
 use Rattle.css_isa.specs.Machine.{exec}
 use Rattle.css_isa.specs.Walks.{Relation, IsKept, Keeps, IsClosed}
-use Rattle.css_isa.specs.Runs.{Extends, Grows}
+use Rattle.css_semantics.specs.Fronts.{Extends, Grows}
+use Rattle.css_semantics.proofs.Growth.{grows_then, grows_if, grows_fault, grows_ask, extends_same, extends_then, extends_if}
 use Rattle.css_isa.proofs.Walk.{kept_exec}
 
 -- ---- where anything may be asked, from any state
@@ -33,52 +34,7 @@ all_keep (Halts halt) = tt
 pub always_closed : (code : Code) → IsClosed code Anything Anywhere
 always_closed code s good = all_keep (step_of code s)
 
--- ---- tapes
-
-pub grows_more : {A : Type 0} (o : Outcome A) (mid tape newer : Tape) → mid ≡ newer ++ tape → Grows mid o → Grows tape o
-grows_more o mid tape newer e h = (h.0 ++ newer, h.1 ∙ ap (λ l. h.0 ++ l) e ∙ sym (append_assoc h.0 newer tape))
-
-pub grows_then : {A B : Type 0} (o : Outcome A) (go : A → Tape → Outcome B) (tape : Tape) → Grows tape o → ((a : A) (t : Tape) → Grows t (go a t)) → Grows tape (then_do o go)
-grows_then (Goes a t) go tape h next = grows_more (go a t) t tape h.0 h.1 (next a t)
-grows_then (Stops why t) go tape h next = h
-
-pub grows_if : {A : Type 0} (b : Bool) (o p : Outcome A) (tape : Tape) → Grows tape o → Grows tape p → Grows tape (if b then o else p)
-grows_if true o p tape h k = h
-grows_if false o p tape h k = k
-
-grows_at_fault : (A : Type 0) (reply : Reply) (kind : FaultKind) (i : Item) (tape : Tape) → Grows {A = A} tape (at_fault reply kind i tape)
-grows_at_fault A (Says value) kind i tape = (i ∷ [], refl)
-grows_at_fault A Fails kind i tape = (i ∷ [], refl)
-grows_at_fault A (Refuses rule) kind i tape = ([], refl)
-
-pub grows_fault : (A : Type 0) (w : World) (mode : Mode) (kind : FaultKind) (line : ℕ) (tape : Tape) → Grows {A = A} tape (fault_in w mode kind line tape)
-grows_fault A w Plain kind line tape = (item (Fault kind) line ∷ [], refl)
-grows_fault A w Waiting kind line tape = grows_at_fault A (w tape (item_in Waiting WaitFault line)) kind (item_in Waiting WaitFault line) tape
-grows_fault A w (Measuring arguments) kind line tape = grows_at_fault A (w tape (item_in (Measuring arguments) DimFault line)) kind (item_in (Measuring arguments) DimFault line) tape
-
-grows_reply : (w : World) (mode : Mode) (reply : Reply) (i : Item) (tape : Tape) → Grows tape (replied_in w mode reply i tape)
-grows_reply w mode (Says value) i tape = (i ∷ [], refl)
-grows_reply w mode Fails i tape = grows_more (fault_in {A = ℕ} w mode OutsideMemory i.line (i ∷ tape)) (i ∷ tape) tape (i ∷ []) refl (grows_fault ℕ w mode OutsideMemory i.line (i ∷ tape))
-grows_reply w mode (Refuses rule) i tape = ([], refl)
-
-pub grows_ask : (w : World) (mode : Mode) (action : Action) (line : ℕ) (tape : Tape) → Grows tape (ask_in w mode action line tape)
-grows_ask w mode action line tape = grows_reply w mode (w tape (item_in mode action line)) (item_in mode action line) tape
-
 -- ---- the relation
-
-extends_same : {A : Type 0} (o : Outcome A) → Extends o o
-extends_same (Goes a t) = refl
-extends_same (Stops (Stopped stop line) t) = refl
-extends_same (Stops Tired t) = ([], refl)
-
-extends_then : {A B : Type 0} (o o' : Outcome A) (go go' : A → Tape → Outcome B) → Extends o o' → ((a : A) (t : Tape) → Extends (go a t) (go' a t)) → ((a : A) (t : Tape) → Grows t (go' a t)) → Extends (then_do o go) (then_do o' go')
-extends_then (Goes a t) o' go go' h next grows = subst (λ x. Extends (go a t) (then_do x go')) (sym h) (next a t)
-extends_then (Stops (Stopped stop line) t) o' go go' h next grows = ap (λ x. then_do x go') h
-extends_then (Stops Tired t) o' go go' h next grows = grows_then o' go' t h grows
-
-extends_if : {A : Type 0} (b : Bool) (o o' p p' : Outcome A) → Extends o o' → Extends p p' → Extends (if b then o else p) (if b then o' else p')
-extends_if true o o' p p' h k = h
-extends_if false o o' p p' h k = k
 
 -- behind each tape the second dialogue extends the first, and adds to the tape
 abbrev pub More : Relation

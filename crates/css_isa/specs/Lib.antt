@@ -9,6 +9,5 @@ pub mod Machine
 pub mod Soundness
 pub mod Worked
 pub mod Walks
-pub mod Runs
 pub mod Fitting
 pub mod Quiet

@@ -12,7 +12,7 @@ ghost use Rattle.css_isa.specs.Soundness.{Plan, IsSound, IsAt, Fits};
 ghost use Rattle.css_isa.specs.Fitting.{IsFitting, LeadsOnward};
 ghost use Rattle.css_isa.specs.Machine.{exec, step, go_on};
 ghost use Rattle.css_isa.specs.Quiet.{IsQuietAt};
-ghost use Rattle.css_isa.specs.Runs.{Extends, Grows, Follows, IsFront};
+ghost use Rattle.css_semantics.specs.Fronts.{Extends, Grows, RepliesAs, IsFront};
 
 /// What ends with some steps ends so with more, in every world; what the steps end goes on behind the same tape.
 pub fn more_steps()
@@ -26,7 +26,7 @@ pub fn tapes_grow()
 
 /// Two worlds of which one replies as the other does, on the tapes that come, make one dialogue of a run, up to where the first refuses.
 pub fn alike_worlds_make_one_dialogue()
-    ensures { (w w' : World) (comes : Tape → Bool) (code : Code) (steps : ℕ) (s : State) (tape : Tape) → Follows w w' (λ t. IsTrue (comes t)) → IsTrue (comes tape)
+    ensures { (w w' : World) (comes : Tape → Bool) (code : Code) (steps : ℕ) (s : State) (tape : Tape) → RepliesAs w w' (λ t. IsTrue (comes t)) → IsTrue (comes tape)
         → IsFront (exec w code steps s tape) (exec w' code steps s tape) }
 {}
 

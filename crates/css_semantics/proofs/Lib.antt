@@ -16,3 +16,5 @@ pub mod TaskKept
 pub mod WindowRanges
 pub mod PlainTapes
 pub mod Points
+pub mod Growth
+pub mod Fronts

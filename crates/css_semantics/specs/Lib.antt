@@ -16,3 +16,4 @@ pub mod WindowRanges
 pub mod Plain
 pub mod Erased
 pub mod Points
+pub mod Fronts
