@@ -129,15 +129,23 @@ fn many<L: Ledger>(
     Ok(table)
 }
 
-fn probes<L: Ledger>(
-    rt: &impl Abort,
-    alloc: Global,
-    steps: &mut Steps<L>,
-) -> Result<(), NoMemory> {
+fn probes<L: Ledger>(rt: &impl Abort, alloc: Global, steps: &mut Steps<L>) -> Result<(), NoMemory> {
     let table = many(rt, alloc, steps)?;
-    check(rt, "equal", stands(&table, Window::plain(12_088, 4), steps) == 1);
-    check(rt, "nothing", stands(&table, Window::plain(12_092, 4), steps) == 0);
-    check(rt, "crosses", stands(&table, Window::plain(12_084, 8), steps) == 12_088);
+    check(
+        rt,
+        "equal",
+        stands(&table, Window::plain(12_088, 4), steps) == 1,
+    );
+    check(
+        rt,
+        "nothing",
+        stands(&table, Window::plain(12_092, 4), steps) == 0,
+    );
+    check(
+        rt,
+        "crosses",
+        stands(&table, Window::plain(12_084, 8), steps) == 12_088,
+    );
     check(rt, "last", table.object(999).is_some());
     check(rt, "none", table.object(1_000).is_none());
     Ok(())
@@ -226,11 +234,19 @@ fn versions<L: Ledger>(
     steps: &mut Steps<L>,
 ) -> Result<(), NoMemory> {
     let mut table = ObjectTable::new(alloc);
-    check(rt, "needs", table.needs_snapshot(Window::plain(4_096, 4), steps));
+    check(
+        rt,
+        "needs",
+        table.needs_snapshot(Window::plain(4_096, 4), steps),
+    );
     for row in &ROWS {
         entered(rt, &mut table, alloc, row, steps)?;
     }
-    check(rt, "there", !table.needs_snapshot(Window::plain(4_096, 4), steps));
+    check(
+        rt,
+        "there",
+        !table.needs_snapshot(Window::plain(4_096, 4), steps),
+    );
     check(rt, "load", !table.allows_load(4_099, 1, steps));
     keep(rt, &mut table, alloc)?;
     entered(rt, &mut table, alloc, &KEPT, steps)?;
@@ -263,11 +279,7 @@ static INTS: [(u64, u32, Direction); 4] = [
 ];
 
 // A store of eight bytes takes two objects that are only read, and no third one beside them.
-fn stores<L: Ledger>(
-    rt: &impl Abort,
-    alloc: Global,
-    steps: &mut Steps<L>,
-) -> Result<(), NoMemory> {
+fn stores<L: Ledger>(rt: &impl Abort, alloc: Global, steps: &mut Steps<L>) -> Result<(), NoMemory> {
     let mut table = ObjectTable::new(alloc);
     for call in INTS {
         one(rt, &mut table, alloc, call, steps)?;
@@ -277,8 +289,16 @@ fn stores<L: Ledger>(
         let window = store(rt, &mut table, 4_096, 8, steps);
         check(rt, "taken", window.map(|w| w.base) == taken);
     }
-    check(rt, "third", stands(&table, Window::plain(4_104, 4), steps) == 1);
-    check(rt, "frame", !table.leaves_frame(Window::plain(4_100, 8), steps));
+    check(
+        rt,
+        "third",
+        stands(&table, Window::plain(4_104, 4), steps) == 1,
+    );
+    check(
+        rt,
+        "frame",
+        !table.leaves_frame(Window::plain(4_100, 8), steps),
+    );
     Ok(())
 }
 
@@ -307,11 +327,7 @@ fn broken<L: Ledger>(
     }
 }
 
-fn blocks<L: Ledger>(
-    rt: &impl Abort,
-    alloc: Global,
-    steps: &mut Steps<L>,
-) -> Result<(), NoMemory> {
+fn blocks<L: Ledger>(rt: &impl Abort, alloc: Global, steps: &mut Steps<L>) -> Result<(), NoMemory> {
     let mut table = ObjectTable::new(alloc);
     for (base, dimensions, rule) in BLOCKS {
         let answer = broken(&mut table, alloc, base, &dimensions, steps)?;
@@ -324,7 +340,11 @@ fn blocks<L: Ledger>(
         stride: 32,
     };
     check(rt, "crosses", stands(&table, crossing, steps) == 4_112);
-    check(rt, "one object", stands(&table, Window::plain(8_192, 256), steps) == 1);
+    check(
+        rt,
+        "one object",
+        stands(&table, Window::plain(8_192, 256), steps) == 1,
+    );
     Ok(())
 }
 
