@@ -6,4 +6,5 @@ pub mod Stored
 pub mod Frames
 pub mod Spaces
 pub mod Quiet
+pub mod RoomWorlds
 pub mod Arrivals

@@ -2,4 +2,5 @@ pub mod Alone
 pub mod Regions
 pub mod KeptMemory
 pub mod Quiet
+pub mod Rooms
 pub mod Arrivals
