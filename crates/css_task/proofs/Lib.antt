@@ -6,5 +6,8 @@ pub mod Stored
 pub mod Frames
 pub mod Spaces
 pub mod Quiet
+pub mod OffsetBits
 pub mod RoomWorlds
+pub mod Rows
+pub mod KeptRooms
 pub mod Arrivals

@@ -2,5 +2,8 @@ pub mod Alone
 pub mod Regions
 pub mod KeptMemory
 pub mod Quiet
+pub mod OffsetSets
 pub mod Rooms
+pub mod Placing
+pub mod Cells
 pub mod Arrivals

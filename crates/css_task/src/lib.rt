@@ -3,7 +3,9 @@
 
 mod arguments;
 mod body;
+mod offsets;
 mod part;
+mod placed;
 mod shared;
 mod task_space;
 
