@@ -8,6 +8,7 @@ pub mod Spaces
 pub mod Quiet
 pub mod OffsetBits
 pub mod RoomWorlds
+pub mod Found
 pub mod Rows
 pub mod KeptRooms
 pub mod Arrivals
