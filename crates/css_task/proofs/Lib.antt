@@ -9,6 +9,7 @@ pub mod Quiet
 pub mod OffsetBits
 pub mod RoomWorlds
 pub mod Found
+pub mod CellAccess
 pub mod Rows
 pub mod KeptRooms
 pub mod Arrivals
