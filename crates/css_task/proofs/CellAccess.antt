@@ -12,7 +12,7 @@ use Rattle.css_semantics.specs.Rules.{is_given_for}
 use Rattle.css_task.specs.OffsetSets.{has_bit}
 use Rattle.css_task.specs.Rooms.{Room, room_place, byte_of, bytes_from, body_of, new_byte}
 use Rattle.css_task.specs.Cells.{addresses, flags, cell, is_set, stored_at, unset_at, Kept, room, kept_place}
-use Rattle.css_task.specs.Keeping.{is_fixed, IsFixed, Agree, AreKept, listed}
+use Rattle.css_task.specs.Keeping.{is_fixed, IsFixed, Agree, AreKept, listed, kept}
 use Rattle.css_task.proofs.KeptRooms.{cell_at, stored_byte}
 use Rattle.css_task.proofs.Found.{cell_found, kind_found, listed_at}
 
@@ -59,17 +59,6 @@ first_of f address zero some held = absurd (omega (arith, some))
 first_of f address (suc count) some held = rw held
 
 -- ---- the bytes of a task
-
--- the memory that code keeps
-abbrev pub kept : (uses : List Use) (end : ℕ) (stack frames bytes words : List ℕ) → Kept
-kept uses end stack frames bytes words = record {
-  uses = uses;
-  place = end;
-  stack = stack;
-  frames = frames;
-  bytes = bytes;
-  unwritten = listed (has_bit words) 0 (addresses uses);
-}
 
 module _ (uses : List Use) (end : ℕ) (stack frames bytes words : List ℕ) (are : AreKept uses end bytes words) (short : length stack ≤ 16384) (high : 16384 ≤ end) where
   abbrev m : Kept

@@ -6,7 +6,7 @@ use Rattle.std.proofs.lemmas.List.{length-append, length-replicate, get_or-repli
 use Rattle.std.proofs.lemmas.Option.{slice_get_within, slice_get-get_or, get_or_from_slice_get}
 use Rattle.css_base.specs.declared.direction.Direction.{Direction}
 use Rattle.css_semantics.specs.Tasks.{Window, Use, window_length, has_byte}
-use Rattle.css_task.specs.Cells.{window_addresses, addresses, flags, cell, is_set}
+use Rattle.css_task.specs.Cells.{window_addresses, addresses, flags, cell, is_set, before}
 use Rattle.css_task.specs.Keeping.{listed}
 use Rattle.css_task.proofs.Rows.{length-rows, get-left, get-right, get-behind, has_found, found_in}
 
@@ -48,10 +48,6 @@ length-flags flag [] = refl
 length-flags flag (u ∷ uses) =
     omega (arith, length-append (replicate (window_length u.window) (flag u)) (flags flag uses), length-replicate {A = Bool} (window_length u.window) (flag u), length-flags flag uses,
     length-append (window_addresses u.window) (addresses uses), length-window u.window)
-
--- the offset of a window's first byte
-abbrev pub before : List Use → ℕ → ℕ
-before uses j = length (addresses (take j uses))
 
 -- the bytes of one of the windows
 pub address_in : (uses : List Use) (j : ℕ) (u : Use) (l : ℕ) → slice_get uses j ≡ Some u → l < window_length u.window → slice_get (addresses uses) (before uses j + l) ≡ slice_get (window_addresses u.window) l

@@ -9,6 +9,8 @@ pub mod Quiet
 pub mod OffsetBits
 pub mod RoomWorlds
 pub mod Found
+pub mod RoomSteps
+pub mod Hits
 pub mod CellAccess
 pub mod Rows
 pub mod KeptRooms

@@ -1,5 +1,5 @@
 -- The bytes that a task is given, as one list: those of each window row by row, the windows in order.
-use Rattle.std.specs.Prelude.{ℕ, zero, suc, ◌+◌, ◌-◌, Bool, true, false, not, ◌&&◌, List, [], ◌∷◌, ◌++◌, length, drop, get_or, replicate, slice_index, Option, Some, None, option_map, ◌==◌, if◌then◌else◌}
+use Rattle.std.specs.Prelude.{ℕ, zero, suc, ◌+◌, ◌-◌, Bool, true, false, not, ◌&&◌, List, [], ◌∷◌, ◌++◌, length, take, drop, get_or, replicate, slice_index, Option, Some, None, option_map, ◌==◌, if◌then◌else◌}
 use Rattle.css_semantics.specs.Dialogue.{Action, Reply}
 use Rattle.css_semantics.specs.Actions.{Access, Enters, Leaves, Loads, Stores, Allots, NoAccess, access_of}
 use Rattle.css_semantics.specs.Memory.{is_between, overlaid}
@@ -24,6 +24,10 @@ window_addresses w = rows_addresses w.rows w.base w.width w.stride
 abbrev pub addresses : List Use → List ℕ
 addresses [] = []
 addresses (u ∷ uses) = window_addresses u.window ++ addresses uses
+
+-- the offset of a window's first byte
+abbrev pub before : List Use → ℕ → ℕ
+before uses j = length (addresses (take j uses))
 
 -- a flag of each window, for each of its bytes
 abbrev pub flags : (Use → Bool) → List Use → List Bool

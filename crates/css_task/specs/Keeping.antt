@@ -2,7 +2,7 @@
 use Rattle.std.specs.Prelude.{◌≡◌, ℕ, ◌+◌, ◌-◌, ◌*◌, ◌<◌, ◌≤◌, ◌⊎◌, Bool, true, false, not, List, [], ◌∷◌, length, Some, slice_get, slice_index}
 use Rattle.css_semantics.specs.Tasks.{Use, writes}
 use Rattle.css_task.specs.OffsetSets.{has_bit}
-use Rattle.css_task.specs.Cells.{addresses, flags}
+use Rattle.css_task.specs.Cells.{addresses, flags, Kept}
 
 -- the task may not write the window
 abbrev pub is_fixed : Use → Bool
@@ -29,3 +29,14 @@ pub record AreKept (uses : List Use) (end : ℕ) (bytes words : List ℕ) : Type
 abbrev pub listed : (ℕ → Bool) → (from : ℕ) → (addresses : List ℕ) → List Bool
 listed has from [] = []
 listed has from (a ∷ all) = has from ∷ listed has (from + 1) all
+
+-- the memory that code keeps
+abbrev pub kept : (uses : List Use) (end : ℕ) (stack frames bytes words : List ℕ) → Kept
+kept uses end stack frames bytes words = record {
+  uses = uses;
+  place = end;
+  stack = stack;
+  frames = frames;
+  bytes = bytes;
+  unwritten = listed (has_bit words) 0 (addresses uses);
+}

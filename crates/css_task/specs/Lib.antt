@@ -4,6 +4,7 @@ pub mod KeptMemory
 pub mod Quiet
 pub mod OffsetSets
 pub mod Rooms
+pub mod IsRoom
 pub mod Keeping
 pub mod Placing
 pub mod Cells

@@ -8,5 +8,6 @@ mod part;
 mod placed;
 mod shared;
 mod task_space;
+mod windows;
 
 pub use shared::{SharedEnd, run_shared};

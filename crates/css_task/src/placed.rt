@@ -1,9 +1,4 @@
 //! Windows of a task, and where their bytes are kept.
-ghost use Rattle.std.specs.Prelude.{◌≡◌, ◌≤◌, ◌+◌, ◌^◌, ◌<◌, is_some, IfSome};
-ghost use Rattle.css_semantics.specs.Rules.{is_in_window};
-ghost use Rattle.css_record.specs.Windows.{window, IsWindow};
-ghost use Rattle.css_task.specs.Placing.{IsAt};
-
 use css_base::Direction;
 use css_record::Window;
 
@@ -16,6 +11,11 @@ pub(crate) struct Placed {
 }
 
 impl Placed {
+    ghost use Rattle.std.specs.Prelude.{◌≡◌, ◌≤◌, is_some, IfSome};
+    ghost use Rattle.css_semantics.specs.Rules.{is_in_window};
+    ghost use Rattle.css_record.specs.Windows.{window, IsWindow};
+    ghost use Rattle.css_task.specs.Placing.{IsAt};
+
     /// The offset in the window, row by row, of the first of so many bytes from an address, if they are wholly in one row.
     pub(crate) fn offset(&self, address: u32, count: usize) -> Option<usize>
         requires window { IsWindow (window self.now.window) }
