@@ -2,7 +2,7 @@
 use Rattle.std.proofs.Common.{◌≡◌, ℕ, zero, suc, ◌+◌, ◌-◌, ◌*◌, ◌<◌, ◌≤◌, Bool, true, false, not, ◌&&◌, ◌||◌, List, [], ◌∷◌, ◌++◌, length, take, drop, slice_get, slice_index, get_or, nat_le, nat_lt, Option, Some, None, option_map, unwrap_or, ◌⊎◌, inl, inr, refl, ap, ap₂, sym, ◌∙◌, arith, if◌then◌else◌}
 use Rattle.std.specs.List.{list_any}
 use Rattle.std.proofs.Math.Seq.{drop-cons}
-use Rattle.std.proofs.lemmas.Bool.{and_parts, leb-true, ltb-true}
+use Rattle.std.proofs.lemmas.Bool.{and_parts, leb-true, ltb-true, cases_lt}
 use Rattle.std.proofs.lemmas.Bool.Decides.{nat_tests}
 use Rattle.std.proofs.lemmas.Option.{slice_get_within, get_or_from_slice_get}
 use Rattle.css_semantics.specs.Memory.{is_between, all_from, overlaid}
@@ -57,6 +57,41 @@ none_of f address count each = ap not (none_all f address count each)
 pub first_of : (f : ℕ → Bool) (address count : ℕ) → 1 ≤ count → f address ≡ true → some_from f address count ≡ true
 first_of f address zero some held = absurd (omega (arith, some))
 first_of f address (suc count) some held = rw held
+
+all_gives : (f : ℕ → Bool) (address count : ℕ) → all_from (λ a. not (f a)) address count ≡ true → (t : ℕ) → t < count → not (f (address + t)) ≡ true
+all_gives f address zero all t below = absurd (omega (arith, below))
+all_gives f address (suc count) all zero below =
+    let first : address ≡ address + 0 = omega arith in
+    ap (λ n. not (f n)) (sym first) ∙ (and_parts (not (f address)) (all_from (λ a. not (f a)) (address + 1) count) all).0
+all_gives f address (suc count) all (suc t) below =
+    let next : address + suc t ≡ address + 1 + t = omega arith in
+    ap (λ n. not (f n)) next ∙ all_gives f (address + 1) count (and_parts (not (f address)) (all_from (λ a. not (f a)) (address + 1) count) all).1 t (omega (arith, below))
+
+some_by : (f : ℕ → Bool) (address count t : ℕ) → t < count → f (address + t) ≡ true → (b : Bool) → all_from (λ a. not (f a)) address count ≡ b → not b ≡ true
+some_by f address count t below held true all = absurd (cc (ap not held, all_gives f address count all t below))
+some_by f address count t below held false all = refl
+
+-- one of them passes
+pub one_passes : (f : ℕ → Bool) (address count t : ℕ) → t < count → f (address + t) ≡ true → some_from f address count ≡ true
+one_passes f address count t below held = some_by f address count t below held (all_from (λ a. not (f a)) address count) refl
+
+not_not : (b : Bool) → not b ≡ false → b ≡ true
+not_not true is = refl
+not_not false is = absurd (cc)
+
+not_true : (b : Bool) → not b ≡ true → b ≡ false
+not_true true is = absurd (cc)
+not_true false is = refl
+
+-- one more that doesn't pass
+pub none_more : (f : ℕ → Bool) (address count : ℕ) → some_from f address count ≡ false → f (address + count) ≡ false → some_from f address (count + 1) ≡ false
+none_more f address count none out =
+    none_of f address (count + 1) (λ t below. elim (cases_lt t count) [
+      | inl before ↦ not_true (f (address + t)) (all_gives f address count (not_not (all_from (λ a. not (f a)) address count) none) t before)
+      | inr behind ↦
+          let same : t ≡ count = omega (arith, below, behind) in
+          ap (λ n. f (address + n)) same ∙ out
+    ])
 
 -- ---- the bytes of a task
 

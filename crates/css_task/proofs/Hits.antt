@@ -1,16 +1,16 @@
 -- What is found among a task's windows.
-use Rattle.std.proofs.Common.{◌≡◌, ℕ, zero, suc, ◌+◌, ◌*◌, ◌<◌, ◌≤◌, ◌^◌, Bool, true, false, ◌||◌, List, [], ◌∷◌, length, drop, map, slice_get, ◌-◌, option_map, Some, refl, ap, sym, ◌∙◌, arith}
+use Rattle.std.proofs.Common.{◌≡◌, ℕ, zero, suc, ◌+◌, ◌*◌, ◌<◌, ◌≤◌, ◌^◌, Bool, true, false, ◌||◌, ◌&&◌, List, [], ◌∷◌, length, drop, map, slice_get, ◌-◌, option_map, Some, refl, ap, sym, ◌∙◌, arith}
 use Rattle.std.specs.List.{list_any}
 use Rattle.std.proofs.lemmas.Option.{slice_get_within, slice_get-map}
 use Rattle.css_base.specs.declared.direction.Direction.{Direction}
-use Rattle.css_semantics.specs.Tasks.{Window, Use, window_length}
+use Rattle.css_semantics.specs.Tasks.{Window, Use, window_length, has_byte}
 use Rattle.css_semantics.specs.Rules.{is_in_window}
 use Rattle.css_record.specs.Windows.{window}
 use Rattle.css_task.specs.declared.placed.Placed.{Placed}
 use Rattle.css_task.specs.Cells.{window_addresses, addresses, flags, before}
 use Rattle.css_task.specs.Placing.{IsAt, use_of, uses_of, ArePlaced, IsHit}
-use Rattle.css_task.proofs.Rows.{rows_at}
-use Rattle.css_task.proofs.Found.{length-window, address_in, flag_in}
+use Rattle.css_task.proofs.Rows.{rows_at, has_found}
+use Rattle.css_task.proofs.Found.{length-window, address_in, flag_in, kind_from}
 
 or_true : (b : Bool) → (b || true) ≡ true
 or_true true = refl
@@ -55,6 +55,14 @@ module _ (all : List Placed) (address count offset : ℕ) (direction : Direction
   hit_flag flag t below =
       ap (slice_get (flags flag (uses_of all))) (there t)
       ∙ flag_in flag (uses_of all) hit.number (use_of hit.placed) (hit.in_window + t) (use_at all hit.number hit.placed hit.there) (below_length t below)
+
+  -- its first byte is in a window of its kind
+  pub hit_kind : (flag : Use → Bool) → flag (use_of hit.placed) ≡ true → 1 ≤ count → list_any (λ u. flag u && has_byte u.window address) (uses_of all) ≡ true
+  hit_kind flag of some =
+      let first : address + 0 ≡ address = omega arith in
+      let has : has_byte (window hit.placed.window) address ≡ true =
+      ap (has_byte (window hit.placed.window)) (sym first) ∙ has_found (window hit.placed.window) (hit.in_window + 0) (address + 0) (in_at (window hit.placed.window) address count hit.in_window hit.at 0 (omega (arith, some))) in
+      kind_from flag (uses_of all) hit.number (use_of hit.placed) address (use_at all hit.number hit.placed hit.there) of has
 
   pub hit_within : 1 ≤ count → offset + count ≤ length (addresses (uses_of all))
   hit_within some =

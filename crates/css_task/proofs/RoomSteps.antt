@@ -1,5 +1,5 @@
 -- What a task's memory does, where its windows' bytes and its stack are kept apart.
-use Rattle.std.proofs.Common.{◌≡◌, ℕ, zero, suc, ◌+◌, ◌-◌, ◌*◌, ◌<◌, ◌≤◌, Bool, true, false, not, ◌&&◌, ◌||◌, List, [], ◌∷◌, ◌++◌, length, take, drop, replicate, fold, map, slice_get, slice_index, nat_le, nat_lt, Some, inl, inr, refl, ap, ap₂, sym, subst, ◌∙◌, arith, if◌then◌else◌}
+use Rattle.std.proofs.Common.{◌≡◌, ℕ, zero, suc, ◌+◌, ◌-◌, ◌*◌, ◌<◌, ◌≤◌, Bool, true, false, not, ◌&&◌, ◌||◌, List, [], ◌∷◌, ◌++◌, length, take, drop, replicate, fold, map, slice_get, slice_index, nat_le, nat_lt, ◌==◌, Some, inl, inr, refl, ap, ap₂, sym, subst, ◌∙◌, arith, if◌then◌else◌}
 use Rattle.std.specs.List.{list_any}
 use Rattle.std.proofs.lemmas.Bool.{and_parts, leb-true, ltb-true, ltb-false, or_parts}
 use Rattle.std.proofs.lemmas.Bool.Decides.{nat_tests}
@@ -17,8 +17,10 @@ use Rattle.css_semantics.specs.Alone.{Region, TaskMemory, task_place, task_bytes
 use Rattle.css_semantics.specs.TaskSpaces.{TaskState, place_of, holds, is_given, entry_reply, space_reply, space_behind, space_after, total}
 use Rattle.css_semantics.proofs.StackPlaces.{length-overlaid}
 use Rattle.css_semantics.proofs.TaskWorlds.{total-from, left_total}
-use Rattle.css_semantics.proofs.TaskBytes.{frame_in_stack}
-use Rattle.css_vm.specs.Spaces.{IsRefusal}
+use Rattle.css_semantics.proofs.TaskBytes.{frame_in_stack, overlaid_out}
+use Rattle.css_vm.specs.Spaces.{IsRefusal, bytes_of}
+use Rattle.css_vm.specs.declared.space.Width.{Width}
+use Rattle.css_vm.specs.declared.space.Width.TheVariants as widths
 use Rattle.css_task.specs.declared.placed.Placed.{Placed}
 use Rattle.css_task.specs.OffsetSets.{has_bit}
 use Rattle.css_task.specs.Rooms.{byte_of, bytes_from, body_of}
@@ -27,7 +29,8 @@ use Rattle.css_task.specs.Placing.{use_of, uses_of, IsHit}
 use Rattle.css_task.specs.Keeping.{is_fixed, IsFixed, AreKept, listed, kept}
 use Rattle.css_task.specs.IsRoom.{kept_with, IsRoom}
 use Rattle.css_task.proofs.CellAccess.{flags_same, window_bytes, stack_known, stack_writable, stores_same, flags_stored, kept_bytes, kept_flags, same_store, writable, are_kept, first_of}
-use Rattle.css_task.proofs.Hits.{hit_at, hit_flag, hit_within}
+use Rattle.css_task.proofs.RoomWorlds.{fits_by}
+use Rattle.css_task.proofs.Hits.{hit_at, hit_flag, hit_kind, hit_within}
 
 none_by : (b : Bool) → (b ≡ true → ⊥) → b ≡ false
 none_by true never = absurd (never refl)
@@ -193,8 +196,10 @@ module _ (all : List Placed) (s : TaskState) (bytes words : List ℕ) (is : IsRo
   -- ---- stores in a window
 
   module _ (address offset : ℕ) (new : List ℕ) (direction : Direction) (hit : IsHit all address (length new) offset direction) (held : windowed address (length new) ≡ true) where
-    pub store_fixed : 1 ≤ length new → some_from (is_given_for (λ d. not (writes d)) (body_of (room m))) address (length new) ≡ true → kept_reply m (Store address new) ≡ Refuses rules.WroteInput
-    store_fixed one fixed =
+    pub store_fixed : 1 ≤ length new → writes direction ≡ false → kept_reply m (Store address new) ≡ Refuses rules.WroteInput
+    store_fixed one unwritten =
+        let kind : is_fixed (use_of hit.placed) ≡ true = ap (λ d. not (writes d)) (sym hit.direction_is) ∙ ap not unwritten in
+        let fixed = first_of (is_given_for (λ d. not (writes d)) (body_of (room m))) address (length new) one (hit_kind all address (length new) offset direction hit is_fixed kind one) in
         other_reply (not (windowed address (length new) || framed address (length new))) (some_from (is_given_for (λ d. not (writes d)) (body_of (room m))) address (length new)) rules.WroteInput (Says 0)
         (in_window address (length new) held) fixed
 
@@ -211,11 +216,24 @@ module _ (all : List Placed) (s : TaskState) (bytes words : List ℕ) (is : IsRo
           (in_window address (length new) held)
           (writable us s.memory.place bytes words is.are address offset (length new) (hit_at all address (length new) offset direction hit) not_fixed)
 
+      stack_stays : 1 ≤ length new → length new ≤ 8 → overlaid (task_place s.memory) s.memory.stack address new ≡ s.memory.stack
+      stack_stays one few =
+          let first : address + 0 ≡ address = omega arith in
+          let low = is.are.clear (offset + 0) (address + 0) (hit_at all address (length new) offset direction hit 0 (omega (arith, one))) in
+          let high = is.are.clear (offset + (length new - 1)) (address + (length new - 1)) (hit_at all address (length new) offset direction hit (length new - 1) (omega (arith, one))) in
+          elim low [
+            | inr above ↦ overlaid_out (task_place s.memory) s.memory.stack address new (inr (omega (arith, above, is.short, is.high)))
+            | inl below ↦ elim high [
+              | inl under ↦ overlaid_out (task_place s.memory) s.memory.stack address new (inl (omega (arith, under, is.short, one)))
+              | inr over ↦ absurd (omega (arith, over, below, few, is.high))
+            ]
+          ]
+
       pub stored_window : (bytes' words' : List ℕ) → bytes' ≡ overlaid 0 bytes offset new → length words' ≡ length words
-          → ((k : ℕ) → has_bit words' k ≡ (not (is_between offset (offset + length new) k) && has_bit words k)) → framed address (length new) ≡ false
-          → (stack_stays : overlaid (task_place s.memory) s.memory.stack address new ≡ s.memory.stack)
+          → ((k : ℕ) → has_bit words' k ≡ (not (is_between offset (offset + length new) k) && has_bit words k)) → 1 ≤ length new → length new ≤ 8
           → (kept_with all s bytes' words' ≡ kept_after m (Store address new)) × IsRoom all s bytes' words'
-      stored_window bytes' words' bytes_are as_many fewer out stays =
+      stored_window bytes' words' bytes_are as_many fewer one few =
+          let stays = stack_stays one few in
           let same = same_store us s.memory.place bytes words is.are address offset (length new) (hit_at all address (length new) offset direction hit) not_fixed in
           let bytes_is : bytes' ≡ stored_at (addresses us) bytes address new = bytes_are ∙ stores_same (addresses us) bytes 0 address offset new is.are.long same in
           let flags_are = flags_stored (addresses us) (has_bit words) (has_bit words') 0 address offset (length new) fewer same in (
@@ -231,3 +249,69 @@ module _ (all : List Placed) (s : TaskState) (bytes words : List ℕ) (is : IsRo
               high = is.high;
             }),
           )
+
+  -- ---- entries and leavings
+
+  entered_by : (deep : Bool) (r : Reply) (base : ℕ) → (if deep then Refuses rules.TaskStack else r) ≡ Says base → deep ≡ false
+  entered_by true r base says = absurd (cc)
+  entered_by false r base says = refl
+
+  pub entered : (size base : ℕ) → space_reply s (Enter size) ≡ Says base → (s' : TaskState) → s' ≡ space_after s (Enter size)
+      → (kept_with all s' bytes words ≡ kept_after m (Enter size)) × IsRoom all s' bytes words
+  entered size base says s' learns =
+      let shallow = entered_by (is_too_deep task_stack s.frames size) (entry_reply (place_of s) size) base says in
+      let fits = fits_by (fold (λ sum f. sum + f) size s.frames) (nat_le 1024 (length s.frames)) shallow in
+      let whole = total-from size s.frames in
+      let more = total-from (0 + size) s.frames in
+      let long = length-append (replicate size 0) s.memory.stack in
+      let zeros = length-replicate {A = ℕ} size 0 in (
+        ap (λ s. kept_with all s bytes words) learns,
+        subst (λ s. IsRoom all s bytes words) (sym learns) (record {
+          placed = is.placed;
+          are = is.are;
+          none = is.none;
+          whole = omega (arith, long, zeros, more, is.whole);
+          short = omega (arith, long, zeros, fits, whole, is.whole);
+          high = is.high;
+        }),
+      )
+
+  left_by : (b : Bool) (r : ℕ) → (if b then Says 0 else Fails) ≡ Says r → b ≡ true
+  left_by true r says = refl
+  left_by false r says = absurd (cc)
+
+  leaving_by : (b : Bool) (base size : ℕ) → b ≡ true → is_innermost s.memory s.frames base size ≡ true
+      → IsRoom all (if b then space_behind s (Leave base size) else s) bytes words
+  leaving_by false base size held inner = absurd (cc)
+  leaving_by true base size held inner =
+      let parts = and_parts (nat_le size (length s.memory.stack)) (is_first size s.frames)
+      (and_parts (base + length s.memory.stack == s.memory.place) (nat_le size (length s.memory.stack) && is_first size s.frames) inner).1 in
+      let rest = left_total s.frames size parts.1 in
+      record {
+        placed = is.placed;
+        are = is.are;
+        none = is.none;
+        whole = omega (arith, length-drop size s.memory.stack, rest, is.whole);
+        short = omega (arith, length-drop size s.memory.stack, is.short);
+        high = is.high;
+      }
+
+  kept_leaving : (b : Bool) (base size : ℕ) → kept_with all (if b then space_behind s (Leave base size) else s) bytes words ≡ (if b then kept_left m size else m)
+  kept_leaving true base size = refl
+  kept_leaving false base size = refl
+
+  pub left : (base size r : ℕ) → space_reply s (Leave base size) ≡ Says r → (s' : TaskState) → s' ≡ space_after s (Leave base size)
+      → (kept_with all s' bytes words ≡ kept_after m (Leave base size)) × IsRoom all s' bytes words
+  left base size r says s' learns =
+      let b = is_innermost s.memory s.frames base size in
+      let held = left_by b r says in (
+        ap (λ s. kept_with all s bytes words) learns ∙ kept_leaving b base size,
+        subst (λ s. IsRoom all s bytes words) (sym learns) (leaving_by b base size held held),
+      )
+
+-- each access has a byte, and at most eight
+pub some_bytes : (w : Width) → (1 ≤ bytes_of w) × (bytes_of w ≤ 8)
+some_bytes widths.W8 = (omega arith, omega arith)
+some_bytes widths.W16 = (omega arith, omega arith)
+some_bytes widths.W32 = (omega arith, omega arith)
+some_bytes widths.W64 = (omega arith, omega arith)

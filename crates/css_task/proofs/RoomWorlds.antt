@@ -101,7 +101,7 @@ store_reply true fixed = refl
 store_reply false true = refl
 store_reply false false = refl
 
-fits_by : (sum : ℕ) (many : Bool) → (nat_lt 16384 sum || many) ≡ false → sum ≤ 16384
+pub fits_by : (sum : ℕ) (many : Bool) → (nat_lt 16384 sum || many) ≡ false → sum ≤ 16384
 fits_by sum many shallow = grind (arith, nat_tests)
 
 module _ (limits : Limits) (uses : List Use) (s : Solitude) (stands : Stands uses s) where

@@ -5,6 +5,7 @@ pub mod Quiet
 pub mod OffsetSets
 pub mod Rooms
 pub mod IsRoom
+pub mod RoomPlaces
 pub mod Keeping
 pub mod Placing
 pub mod Cells

@@ -6,6 +6,7 @@ mod body;
 mod offsets;
 mod part;
 mod placed;
+mod room;
 mod shared;
 mod task_space;
 mod windows;

@@ -1,5 +1,7 @@
 //! Sets of offsets.
-ghost use Rattle.std.specs.Prelude.{◌≡◌, ◌≤◌, ◌<◌, ◌*◌, ◌^◌, ◌==◌, ◌||◌, ◌&&◌, not, true, false, ℕ, length, IfOk};
+ghost use Rattle.std.specs.Prelude.{◌≡◌, ◌≤◌, ◌<◌, ◌+◌, ◌*◌, ◌^◌, ◌==◌, ◌||◌, ◌&&◌, not, true, false, ℕ, length, IfOk};
+ghost use Rattle.css_semantics.specs.Memory.{is_between};
+ghost use Rattle.css_semantics.specs.Pending.{some_from};
 ghost use Rattle.css_task.specs.OffsetSets.{has_bit, members};
 
 use css_base::NoMemory;
@@ -56,6 +58,30 @@ impl Offsets {
         if self.has(offset) {
             self.words[offset / 64] &= !(1 << (offset % 64));
             self.count -= 1;
+        }
+    }
+
+    /// Whether one of so many offsets from one on is in the set.
+    pub(crate) fn any(&self, from: usize, count: usize) -> bool
+        requires room { from + count ≤ 64 * length self.now.words.items }
+        ensures { result ≡ some_from (has_bit self.now.words.items) from count }
+    {
+        for k in 0..count {
+            if self.has(from + k) {
+                return true;
+            }
+        }
+        false
+    }
+
+    /// Takes so many offsets from one on out.
+    pub(crate) fn remove_all(&mut self, from: usize, count: usize)
+        requires room { from + count ≤ 64 * length self.old.words.items }
+        ensures room { length self.new.words.items ≡ length self.old.words.items }
+        ensures has { (k : ℕ) → has_bit self.new.words.items k ≡ (not (is_between from (from + count) k) && has_bit self.old.words.items k) }
+    {
+        for k in 0..count {
+            self.remove(from + k);
         }
     }
 

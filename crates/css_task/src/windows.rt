@@ -2,6 +2,7 @@
 ghost use Rattle.std.specs.Prelude.{◌≡◌, ◌≤◌, ◌<◌, ◌+◌, ◌||◌, true, drop, length, map, slice_get, is_some, Some, IfSome};
 ghost use Rattle.std.specs.List.{list_any};
 ghost use Rattle.css_semantics.specs.Rules.{is_in_window};
+ghost use Rattle.css_semantics.specs.Tasks.{writes};
 ghost use Rattle.css_task.specs.Placing.{uses_of, ArePlaced, IsHit};
 
 use crate::placed::Placed;
@@ -19,6 +20,19 @@ pub(crate) struct Windows {
 pub(crate) struct Hit {
     pub(crate) offset: usize,
     pub(crate) direction: Direction,
+}
+
+impl Hit {
+    /// Whether the task may write there.
+    pub(crate) fn is_writable(&self) -> bool
+        ensures { result ≡ writes self.now.direction }
+    {
+        match self.direction {
+            Direction::In => false,
+            Direction::Out => true,
+            Direction::InOut => true,
+        }
+    }
 }
 
 impl Windows {
