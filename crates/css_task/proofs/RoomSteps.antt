@@ -9,7 +9,7 @@ use Rattle.css_base.specs.declared.ending.Stop.{Stop}
 use Rattle.css_base.specs.declared.rule.Rule.{Rule}
 use Rattle.css_base.specs.declared.rule.Rule.TheVariants as rules
 use Rattle.css_semantics.specs.Dialogue.{Enter, Leave, Load, Store, Reply, Says, Fails, Refuses}
-use Rattle.css_semantics.specs.Memory.{big_endian, is_between, overlaid}
+use Rattle.css_semantics.specs.Memory.{big_endian, big_endian_bytes, is_between, overlaid}
 use Rattle.css_semantics.specs.Tasks.{Use, writes}
 use Rattle.css_semantics.specs.Pending.{some_from}
 use Rattle.css_semantics.specs.Rules.{task_stack, is_too_deep, is_in_window, is_in_frame, is_given_for}
@@ -18,6 +18,7 @@ use Rattle.css_semantics.specs.TaskSpaces.{TaskState, place_of, holds, is_given,
 use Rattle.css_semantics.proofs.StackPlaces.{length-overlaid}
 use Rattle.css_semantics.proofs.TaskWorlds.{total-from, left_total}
 use Rattle.css_semantics.proofs.TaskBytes.{frame_in_stack, overlaid_out}
+use Rattle.css_vm.proofs.Bytes.{length-big_endian_bytes}
 use Rattle.css_vm.specs.Spaces.{IsRefusal, bytes_of}
 use Rattle.css_vm.specs.declared.space.Width.{Width}
 use Rattle.css_vm.specs.declared.space.Width.TheVariants as widths
@@ -46,6 +47,13 @@ and_false false = refl
 
 or_none : (a b : Bool) → a ≡ false → b ≡ false → (a || b) ≡ false
 or_none a b is is' = rw (is, is')
+
+-- each access has a byte, and at most eight
+pub some_bytes : (w : Width) → (1 ≤ bytes_of w) × (bytes_of w ≤ 8)
+some_bytes widths.W8 = (omega arith, omega arith)
+some_bytes widths.W16 = (omega arith, omega arith)
+some_bytes widths.W32 = (omega arith, omega arith)
+some_bytes widths.W64 = (omega arith, omega arith)
 
 -- what was said where something is given
 given_by : (b : Bool) (x value : ℕ) → (if b then Says x else Refuses rules.OutsideArguments) ≡ Says value → (b ≡ true) × (x ≡ value)
@@ -250,6 +258,40 @@ module _ (all : List Placed) (s : TaskState) (bytes words : List ℕ) (is : IsRo
             }),
           )
 
+  -- by the number that is stored
+  module _ (address offset count : ℕ) (w : Width) (value : ℕ) (direction : Direction) (same : count ≡ bytes_of w) (hit : IsHit all address count offset direction) (held : windowed address count ≡ true) where
+    abbrev new : List ℕ
+    new = big_endian_bytes (bytes_of w) value
+
+    long : length new ≡ bytes_of w
+    long = length-big_endian_bytes (bytes_of w) value
+
+    as_long : count ≡ length new
+    as_long = same ∙ sym long
+
+    hit_there : IsHit all address (length new) offset direction
+    hit_there = subst (λ n. IsHit all address n offset direction) as_long hit
+
+    held_there : windowed address (length new) ≡ true
+    held_there = subst (λ n. windowed address n ≡ true) as_long held
+
+    one : 1 ≤ length new
+    one = omega (arith, long, (some_bytes w).0)
+
+    pub number_fixed : writes direction ≡ false → kept_reply m (Store address new) ≡ Refuses rules.WroteInput
+    number_fixed fixed = store_fixed address offset new direction hit_there held_there one fixed
+
+    module _ (written : writes direction ≡ true) where
+      pub number_says : kept_reply m (Store address new) ≡ Says 0
+      number_says = stores_window address offset new direction hit_there held_there written
+
+      pub number_stored : (bytes' words' : List ℕ) → bytes' ≡ overlaid 0 bytes offset new → length words' ≡ length words
+          → ((k : ℕ) → has_bit words' k ≡ (not (is_between offset (offset + count) k) && has_bit words k))
+          → (kept_with all s bytes' words' ≡ kept_after m (Store address new)) × IsRoom all s bytes' words'
+      number_stored bytes' words' bytes_are as_many fewer =
+          stored_window address offset new direction hit_there held_there written bytes' words' bytes_are as_many
+          (λ k. fewer k ∙ ap (λ n. not (is_between offset (offset + n) k) && has_bit words k) as_long) one (omega (arith, long, (some_bytes w).1))
+
   -- ---- entries and leavings
 
   entered_by : (deep : Bool) (r : Reply) (base : ℕ) → (if deep then Refuses rules.TaskStack else r) ≡ Says base → deep ≡ false
@@ -308,10 +350,3 @@ module _ (all : List Placed) (s : TaskState) (bytes words : List ℕ) (is : IsRo
         ap (λ s. kept_with all s bytes words) learns ∙ kept_leaving b base size,
         subst (λ s. IsRoom all s bytes words) (sym learns) (leaving_by b base size held held),
       )
-
--- each access has a byte, and at most eight
-pub some_bytes : (w : Width) → (1 ≤ bytes_of w) × (bytes_of w ≤ 8)
-some_bytes widths.W8 = (omega arith, omega arith)
-some_bytes widths.W16 = (omega arith, omega arith)
-some_bytes widths.W32 = (omega arith, omega arith)
-some_bytes widths.W64 = (omega arith, omega arith)
