@@ -1,17 +1,16 @@
 -- Loads and stores in a task's memory as code keeps it: in one of its windows, and in its stack.
-use Rattle.std.proofs.Common.{◌≡◌, ℕ, zero, suc, ◌+◌, ◌-◌, ◌*◌, ◌<◌, ◌≤◌, Bool, true, false, not, ◌&&◌, ◌||◌, List, [], ◌∷◌, ◌++◌, length, take, drop, slice_get, slice_index, get_or, nat_le, nat_lt, Option, Some, None, option_map, unwrap_or, ◌⊎◌, inl, inr, refl, ap, ap₂, sym, ◌∙◌, arith, if◌then◌else◌}
+use Rattle.std.proofs.Common.{◌≡◌, ℕ, zero, suc, ◌+◌, ◌-◌, ◌<◌, ◌≤◌, Bool, true, false, not, ◌&&◌, List, [], ◌∷◌, length, take, drop, slice_get, slice_index, nat_le, nat_lt, Option, Some, None, option_map, unwrap_or, inl, inr, refl, ap, ap₂, sym, ◌∙◌, arith, if◌then◌else◌}
 use Rattle.std.specs.List.{list_any}
 use Rattle.std.proofs.Math.Seq.{drop-cons}
 use Rattle.std.proofs.lemmas.Bool.{and_parts, leb-true, ltb-true, cases_lt}
 use Rattle.std.proofs.lemmas.Bool.Decides.{nat_tests}
-use Rattle.std.proofs.lemmas.Option.{slice_get_within, get_or_from_slice_get}
 use Rattle.css_semantics.specs.Memory.{is_between, all_from, overlaid}
-use Rattle.css_semantics.specs.Tasks.{Use, Body, writes, has_byte}
+use Rattle.css_semantics.specs.Tasks.{Use, writes, has_byte}
 use Rattle.css_semantics.specs.Pending.{some_from}
 use Rattle.css_semantics.specs.Rules.{is_given_for}
 use Rattle.css_task.specs.OffsetSets.{has_bit}
-use Rattle.css_task.specs.Rooms.{Room, room_place, byte_of, bytes_from, body_of, new_byte}
-use Rattle.css_task.specs.Cells.{addresses, flags, cell, is_set, stored_at, unset_at, Kept, room, kept_place}
+use Rattle.css_task.specs.Rooms.{byte_of, bytes_from, body_of, new_byte}
+use Rattle.css_task.specs.Cells.{addresses, flags, cell, is_set, stored_at, unset_at, Kept, room}
 use Rattle.css_task.specs.Keeping.{is_fixed, IsFixed, Agree, AreKept, listed, kept}
 use Rattle.css_task.proofs.KeptRooms.{cell_at, stored_byte}
 use Rattle.css_task.proofs.Found.{cell_found, kind_found, listed_at}
@@ -177,8 +176,8 @@ module _ (uses : List Use) (end : ℕ) (stack frames bytes words : List ℕ) (ar
   pub stack_writable : (address count : ℕ) → IsClear address count → some_from (is_given_for (λ d. not (writes d)) (body_of (room m))) address count ≡ false
   stack_writable address count clear = none_of (is_given_for (λ d. not (writes d)) (body_of (room m))) address count (λ t below.
       none_by (list_any (λ u. is_fixed u && has_byte u.window (address + t)) uses) (λ any.
-          let found = kind_found is_fixed uses (address + t) any in
-          no_window found.0 (address + t) (clear t below).0 (clear t below).1 found.1))
+      let found = kind_found is_fixed uses (address + t) any in
+      no_window found.0 (address + t) (clear t below).0 (clear t below).1 found.1))
 
 -- ---- stores
 
@@ -293,9 +292,9 @@ module _ (uses : List Use) (end : ℕ) (bytes words : List ℕ) (are : AreKept u
   pub writable : some_from (λ at. list_any (λ u. is_fixed u && has_byte u.window at) uses) address count ≡ false
   writable = none_of (λ at. list_any (λ u. is_fixed u && has_byte u.window at) uses) address count (λ t below.
       none_by (list_any (λ u. is_fixed u && has_byte u.window (address + t)) uses) (λ any.
-          let found = kind_found is_fixed uses (address + t) any in
-          let placed = one_place t found.0 below (are.agree found.0 (index + t) (address + t) found.1 (stand t below)) in
-          written t below (ap (slice_get (flags is_fixed uses)) (sym placed) ∙ found.2)))
+      let found = kind_found is_fixed uses (address + t) any in
+      let placed = one_place t found.0 below (are.agree found.0 (index + t) (address + t) found.1 (stand t below)) in
+      written t below (ap (slice_get (flags is_fixed uses)) (sym placed) ∙ found.2)))
 
 -- what is kept behind a store
 module _ (uses : List Use) (end : ℕ) (bytes words words' : List ℕ) (are : AreKept uses end bytes words) (address : ℕ) (new : List ℕ)
@@ -307,8 +306,11 @@ module _ (uses : List Use) (end : ℕ) (bytes words words' : List ℕ) (are : Ar
 
   still_agree : (i k at : ℕ) → slice_get (addresses uses) i ≡ Some at → slice_get (addresses uses) k ≡ Some at → Agree uses bytes i k → Agree uses (stored_at (addresses uses) bytes address new) i k
   still_agree i k at is is' (inl same) = inl same
-  still_agree i k at is is' (inr fixed) = inr (fixed.0, fixed.1,
-      stored_byte (addresses uses) bytes address new i at is ∙ ap (new_byte address new at) fixed.2 ∙ sym (stored_byte (addresses uses) bytes address new k at is'))
+  still_agree i k at is is' (inr fixed) = inr (
+    fixed.0,
+    fixed.1,
+    stored_byte (addresses uses) bytes address new i at is ∙ ap (new_byte address new at) fixed.2 ∙ sym (stored_byte (addresses uses) bytes address new k at is'),
+  )
 
   pub are_kept : AreKept uses end (stored_at (addresses uses) bytes address new) words'
   are_kept = record {

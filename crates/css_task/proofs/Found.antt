@@ -1,14 +1,13 @@
 -- Where the bytes of a task's windows stand among all of them.
-use Rattle.std.proofs.Common.{◌≡◌, ℕ, zero, suc, ◌+◌, ◌-◌, ◌*◌, ◌<◌, ◌≤◌, Bool, true, false, not, ◌&&◌, ◌||◌, List, [], ◌∷◌, ◌++◌, length, take, replicate, slice_get, get_or, Option, Some, None, option_map, ◌==◌, ◌⊎◌, inl, inr, refl, ap, sym, ◌∙◌, arith, if◌then◌else◌}
+use Rattle.std.proofs.Common.{◌≡◌, ℕ, zero, suc, ◌+◌, ◌<◌, Bool, true, false, ◌&&◌, ◌||◌, List, [], ◌∷◌, ◌++◌, length, take, replicate, slice_get, get_or, Option, Some, option_map, ◌==◌, ◌⊎◌, inl, inr, refl, ap, ◌∙◌, arith, if◌then◌else◌}
 use Rattle.std.specs.List.{list_any}
-use Rattle.std.proofs.lemmas.Bool.{and_parts, and_from, cases_lt, eqb-true, eq-eqb}
-use Rattle.std.proofs.lemmas.List.{length-append, length-replicate, get_or-replicate}
-use Rattle.std.proofs.lemmas.Option.{slice_get_within, slice_get-get_or, get_or_from_slice_get}
-use Rattle.css_base.specs.declared.direction.Direction.{Direction}
+use Rattle.std.proofs.lemmas.Bool.{and_parts, and_from, eq-eqb}
+use Rattle.std.proofs.lemmas.List.{length-append, length-replicate}
+use Rattle.std.proofs.lemmas.Option.{slice_get_within}
 use Rattle.css_semantics.specs.Tasks.{Window, Use, window_length, has_byte}
-use Rattle.css_task.specs.Cells.{window_addresses, addresses, flags, cell, is_set, before}
+use Rattle.css_task.specs.Cells.{window_addresses, addresses, flags, cell, before}
 use Rattle.css_task.specs.Keeping.{listed}
-use Rattle.css_task.proofs.Rows.{length-rows, get-left, get-right, get-behind, has_found, found_in}
+use Rattle.css_task.proofs.Rows.{length-rows, get-left, get-right, found_in}
 
 -- ---- the first place of an address
 
@@ -46,8 +45,14 @@ length-window w = length-rows w.rows w.base w.width w.stride
 pub length-flags : (flag : Use → Bool) (uses : List Use) → length (flags flag uses) ≡ length (addresses uses)
 length-flags flag [] = refl
 length-flags flag (u ∷ uses) =
-    omega (arith, length-append (replicate (window_length u.window) (flag u)) (flags flag uses), length-replicate {A = Bool} (window_length u.window) (flag u), length-flags flag uses,
-    length-append (window_addresses u.window) (addresses uses), length-window u.window)
+    omega (
+      arith,
+      length-append (replicate (window_length u.window) (flag u)) (flags flag uses),
+      length-replicate {A = Bool} (window_length u.window) (flag u),
+      length-flags flag uses,
+      length-append (window_addresses u.window) (addresses uses),
+      length-window u.window,
+    )
 
 -- the bytes of one of the windows
 pub address_in : (uses : List Use) (j : ℕ) (u : Use) (l : ℕ) → slice_get uses j ≡ Some u → l < window_length u.window → slice_get (addresses uses) (before uses j + l) ≡ slice_get (window_addresses u.window) l

@@ -1,13 +1,13 @@
 -- A task's memory as lists is a room, and goes on as one.
-use Rattle.std.proofs.Common.{◌≡◌, ℕ, zero, suc, ◌+◌, ◌-◌, ◌≤◌, ◌<◌, Bool, true, false, not, ◌&&◌, ◌||◌, List, [], ◌∷◌, ◌++◌, length, get_or, slice_get, slice_index, Option, Some, None, option_map, ◌==◌, refl, ap, ap₂, sym, ◌∙◌, arith, if◌then◌else◌}
+use Rattle.std.proofs.Common.{◌≡◌, ℕ, zero, suc, ◌+◌, ◌-◌, Bool, true, false, not, ◌&&◌, List, [], ◌∷◌, length, get_or, slice_get, slice_index, Option, Some, None, option_map, ◌==◌, refl, ap, ap₂, sym, ◌∙◌, if◌then◌else◌}
 use Rattle.std.proofs.lemmas.Bool.{eqb-true}
-use Rattle.css_semantics.specs.Dialogue.{Action, Item, Tape}
+use Rattle.css_semantics.specs.Dialogue.{Action, Tape}
 use Rattle.css_semantics.specs.Actions.{Access, Enters, Leaves, Loads, Stores, Allots, NoAccess, Taking, OnEntry, OnTurn, NoUnit, access_of, taking_of}
 use Rattle.css_semantics.specs.Worlds.{state_after}
 use Rattle.css_semantics.specs.Memory.{is_between}
 use Rattle.css_semantics.specs.Units.{Metered, with_units, spending_by, spending}
 use Rattle.css_semantics.specs.Alone.{is_innermost}
-use Rattle.css_task.specs.Rooms.{Room, room_place, stack_of, new_byte, left, room_behind, room_after}
+use Rattle.css_task.specs.Rooms.{Room, stack_of, new_byte, left, room_behind, room_after}
 use Rattle.css_task.specs.Cells.{addresses, cell, Kept, is_set, room, stored_at, unset_at, kept_stored, kept_left, kept_behind, kept_after}
 use Rattle.css_task.proofs.RoomWorlds.{same_everywhere}
 

@@ -1,7 +1,7 @@
 -- What a task's memory does, where its windows' bytes and its stack are kept apart.
-use Rattle.std.proofs.Common.{◌≡◌, ℕ, zero, suc, ◌+◌, ◌-◌, ◌*◌, ◌<◌, ◌≤◌, Bool, true, false, not, ◌&&◌, ◌||◌, List, [], ◌∷◌, ◌++◌, length, take, drop, replicate, fold, map, slice_get, slice_index, nat_le, nat_lt, ◌==◌, Some, inl, inr, refl, ap, ap₂, sym, subst, ◌∙◌, arith, if◌then◌else◌}
+use Rattle.std.proofs.Common.{◌≡◌, ℕ, zero, suc, ◌+◌, ◌-◌, ◌<◌, ◌≤◌, Bool, true, false, not, ◌&&◌, ◌||◌, List, ◌∷◌, length, take, drop, replicate, fold, map, slice_get, slice_index, nat_le, nat_lt, ◌==◌, Some, inl, inr, refl, ap, ap₂, sym, subst, ◌∙◌, arith, if◌then◌else◌}
 use Rattle.std.specs.List.{list_any}
-use Rattle.std.proofs.lemmas.Bool.{and_parts, leb-true, ltb-true, ltb-false, or_parts}
+use Rattle.std.proofs.lemmas.Bool.{and_parts, leb-true, ltb-true}
 use Rattle.std.proofs.lemmas.Bool.Decides.{nat_tests}
 use Rattle.std.proofs.lemmas.List.{length-append, length-replicate, length-drop}
 use Rattle.css_base.specs.declared.direction.Direction.{Direction}
@@ -13,8 +13,8 @@ use Rattle.css_semantics.specs.Memory.{big_endian, big_endian_bytes, is_between,
 use Rattle.css_semantics.specs.Tasks.{Use, writes}
 use Rattle.css_semantics.specs.Pending.{some_from}
 use Rattle.css_semantics.specs.Rules.{task_stack, is_too_deep, is_in_window, is_in_frame, is_given_for}
-use Rattle.css_semantics.specs.Alone.{Region, TaskMemory, task_place, task_bytes, task_byte, overlaid_region, is_first, is_innermost}
-use Rattle.css_semantics.specs.TaskSpaces.{TaskState, place_of, holds, is_given, entry_reply, space_reply, space_behind, space_after, total}
+use Rattle.css_semantics.specs.Alone.{task_place, task_bytes, overlaid_region, is_first, is_innermost}
+use Rattle.css_semantics.specs.TaskSpaces.{TaskState, place_of, holds, is_given, entry_reply, space_reply, space_behind, space_after}
 use Rattle.css_semantics.proofs.StackPlaces.{length-overlaid}
 use Rattle.css_semantics.proofs.TaskWorlds.{total-from, left_total}
 use Rattle.css_semantics.proofs.TaskBytes.{frame_in_stack, overlaid_out}
@@ -24,10 +24,10 @@ use Rattle.css_vm.specs.declared.space.Width.{Width}
 use Rattle.css_vm.specs.declared.space.Width.TheVariants as widths
 use Rattle.css_task.specs.declared.placed.Placed.{Placed}
 use Rattle.css_task.specs.OffsetSets.{has_bit}
-use Rattle.css_task.specs.Rooms.{byte_of, bytes_from, body_of}
-use Rattle.css_task.specs.Cells.{addresses, flags, Kept, room, kept_reply, kept_stored, kept_left, kept_after, stored_at, unset_at}
+use Rattle.css_task.specs.Rooms.{bytes_from, body_of}
+use Rattle.css_task.specs.Cells.{addresses, Kept, room, kept_reply, kept_left, kept_after, stored_at}
 use Rattle.css_task.specs.Placing.{use_of, uses_of, IsHit}
-use Rattle.css_task.specs.Keeping.{is_fixed, IsFixed, AreKept, listed, kept}
+use Rattle.css_task.specs.Keeping.{is_fixed, IsFixed, listed}
 use Rattle.css_task.specs.IsRoom.{kept_with, IsRoom}
 use Rattle.css_task.proofs.CellAccess.{flags_same, window_bytes, stack_known, stack_writable, stores_same, flags_stored, kept_bytes, kept_flags, same_store, writable, are_kept, first_of}
 use Rattle.css_task.proofs.RoomWorlds.{fits_by}
@@ -174,14 +174,14 @@ module _ (all : List Placed) (s : TaskState) (bytes words : List ℕ) (is : IsRo
   not_there : (address : ℕ) (new : List ℕ) → framed address (length new) ≡ true → (k at : ℕ) → slice_get (addresses us) k ≡ Some at → is_between address (address + length new) at ≡ false
   not_there address new held k at there =
       none_by (is_between address (address + length new) at) (λ within.
-          let parts = and_parts (nat_le address at) (nat_lt at (address + length new)) within in
-          let both = inside address (length new) held in
-          let from = leb-true address at parts.0 in
-          let to = ltb-true at (address + length new) parts.1 in
-          elim (is.are.clear k at there) [
-            | inl below ↦ absurd (omega (arith, below, from, both.0, is.short))
-            | inr above ↦ absurd (omega (arith, above, to, both.1))
-          ])
+      let parts = and_parts (nat_le address at) (nat_lt at (address + length new)) within in
+      let both = inside address (length new) held in
+      let from = leb-true address at parts.0 in
+      let to = ltb-true at (address + length new) parts.1 in
+      elim (is.are.clear k at there) [
+        | inl below ↦ absurd (omega (arith, below, from, both.0, is.short))
+        | inr above ↦ absurd (omega (arith, above, to, both.1))
+      ])
 
   pub stored_stack : (address : ℕ) (new : List ℕ) (r : ℕ) → space_reply s (Store address new) ≡ Says r → (s' : TaskState) → s' ≡ space_after s (Store address new)
       → (kept_with all s' bytes words ≡ kept_after m (Store address new)) × IsRoom all s' bytes words

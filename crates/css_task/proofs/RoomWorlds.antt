@@ -1,19 +1,19 @@
 -- The world of a task alone replies to a machine as the task's room does, with a task's units.
-use Rattle.std.proofs.Common.{◌≡◌, ℕ, zero, suc, ◌+◌, ◌-◌, ◌≤◌, Bool, true, false, not, ◌&&◌, ◌||◌, List, [], ◌∷◌, ◌++◌, length, drop, replicate, map, fold, slice_index, Option, Some, None, option_map, unwrap_or, nat_le, nat_lt, ◌==◌, IsTrue, refl, ap, ap₂, sym, ◌∙◌, arith, add-zero, if◌then◌else◌}
+use Rattle.std.proofs.Common.{◌≡◌, ℕ, zero, suc, ◌+◌, ◌-◌, ◌≤◌, Bool, true, false, not, ◌&&◌, ◌||◌, List, [], ◌∷◌, length, replicate, map, fold, slice_index, Option, Some, None, option_map, unwrap_or, nat_le, nat_lt, ◌==◌, IsTrue, refl, ap, ap₂, sym, ◌∙◌, arith, add-zero, if◌then◌else◌}
 use Rattle.std.specs.List.{list_any}
 use Rattle.std.proofs.lemmas.Bool.{and_parts, leb-true, ltb-true, le-leb}
 use Rattle.std.proofs.lemmas.Bool.Decides.{nat_tests}
 use Rattle.std.proofs.lemmas.List.{length-append, length-replicate, length-drop, append-nil}
 use Rattle.css_base.specs.declared.limits.Limits.{Limits}
 use Rattle.css_base.specs.declared.rule.Rule.TheVariants as rules
-use Rattle.css_semantics.specs.Dialogue.{Action, Enter, Turn, Leave, Load, Store, Out, In, Malloc, Calls, Returns, Start, Finish, Barrier, Wait, WaitFault, DimFault, Fault, End, Item, Tape, Reply, Says, Fails, Refuses}
+use Rattle.css_semantics.specs.Dialogue.{Action, Enter, Turn, Leave, Load, Store, Out, In, Malloc, Calls, Returns, Start, Finish, Barrier, Wait, WaitFault, DimFault, Fault, End, Tape, Says, Fails, Refuses}
 use Rattle.css_semantics.specs.Worlds.{state_after, is_of_machine, is_fault, AreOfMachine, Follows}
 use Rattle.css_semantics.specs.Memory.{big_endian, is_between, overlaid}
 use Rattle.css_semantics.specs.Units.{Metered, with_units, within, metered, spending}
-use Rattle.css_semantics.specs.Tasks.{Use, Body, reads, writes}
+use Rattle.css_semantics.specs.Tasks.{Use, reads, writes}
 use Rattle.css_semantics.specs.Pending.{some_from}
-use Rattle.css_semantics.specs.Rules.{Check, check, first_broken, judged_reply, checks_of_task, task_stack, is_too_deep, is_in_window, is_in_frame, is_outside, is_given_for, is_unwritten, has_stored}
-use Rattle.css_semantics.specs.Alone.{Region, TaskMemory, Solitude, task_place, task_byte, task_bytes, is_in_region, byte_of_regions, overlaid_region, is_first, is_innermost, alone_reply, alone_behind, alone_after, at_entry, alone_world}
+use Rattle.css_semantics.specs.Rules.{check, first_broken, judged_reply, task_stack, is_too_deep, is_in_window, is_in_frame, is_outside, is_given_for, is_unwritten, has_stored}
+use Rattle.css_semantics.specs.Alone.{Region, Solitude, task_place, task_byte, task_bytes, is_in_region, byte_of_regions, overlaid_region, is_first, is_innermost, alone_reply, alone_behind, alone_after, at_entry, alone_world}
 use Rattle.css_semantics.specs.TaskSpaces.{total}
 use Rattle.css_semantics.proofs.StackPlaces.{length-overlaid}
 use Rattle.css_semantics.proofs.TaskWorlds.{total-from, left_total}
@@ -123,13 +123,13 @@ module _ (limits : Limits) (uses : List Use) (s : Solitude) (stands : Stands use
   same_reply (Load address width) machine =
       load_reply (is_outside s.body address width) (some_from (is_unwritten s.body) address width) (big_endian (task_bytes s.memory address width))
       ∙ ap (λ place. if not (list_any (λ u. is_in_window u.window address width) s.body.uses || is_in_frame place s.body.frames address width) then Refuses rules.OutsideArguments
-          else (if some_from (is_unwritten s.body) address width then Refuses rules.ReadUnwritten else Says (big_endian (task_bytes s.memory address width)))) stands.same_place
+      else (if some_from (is_unwritten s.body) address width then Refuses rules.ReadUnwritten else Says (big_endian (task_bytes s.memory address width)))) stands.same_place
       ∙ ap (λ bytes. if is_outside (body_of (room_of s)) address width then Refuses rules.OutsideArguments
-          else (if some_from (is_unwritten s.body) address width then Refuses rules.ReadUnwritten else Says (big_endian bytes))) (bytes_are s address width)
+      else (if some_from (is_unwritten s.body) address width then Refuses rules.ReadUnwritten else Says (big_endian bytes))) (bytes_are s address width)
   same_reply (Store address bytes) machine =
       store_reply (is_outside s.body address (length bytes)) (some_from (is_given_for (λ d. not (writes d)) s.body) address (length bytes))
       ∙ ap (λ place. if not (list_any (λ u. is_in_window u.window address (length bytes)) s.body.uses || is_in_frame place s.body.frames address (length bytes)) then Refuses rules.OutsideArguments
-          else (if some_from (is_given_for (λ d. not (writes d)) s.body) address (length bytes) then Refuses rules.WroteInput else Says 0)) stands.same_place
+      else (if some_from (is_given_for (λ d. not (writes d)) s.body) address (length bytes) then Refuses rules.WroteInput else Says 0)) stands.same_place
   same_reply (Out bytes) machine = absurd (cc)
   same_reply In machine = absurd (cc)
   same_reply (Malloc size) machine = absurd (cc)

@@ -1,6 +1,6 @@
 -- Rows of windows: which one an access is in, and the addresses of their bytes.
-use Rattle.std.proofs.Common.{◌≡◌, ◌≢◌, ℕ, zero, suc, ◌+◌, ◌-◌, ◌*◌, ◌/◌, ◌%◌, ◌<◌, ◌≤◌, Bool, true, false, ◌&&◌, ◌||◌, nat_le, nat_lt, List, [], ◌∷◌, ◌++◌, length, slice_get, Option, Some, None, ◌⊎◌, inl, inr, zero-add, refl, ap, sym, ◌∙◌, arith}
-use Rattle.std.proofs.lemmas.Bool.{and_parts, and_from, leb-true, ltb-true, le-leb, lt-ltb, cases_lt}
+use Rattle.std.proofs.Common.{◌≡◌, ℕ, zero, suc, ◌+◌, ◌-◌, ◌*◌, ◌/◌, ◌%◌, ◌<◌, ◌≤◌, Bool, true, false, ◌&&◌, ◌||◌, nat_le, nat_lt, List, [], ◌∷◌, ◌++◌, length, slice_get, Some, inl, inr, zero-add, refl, ap, sym, ◌∙◌, arith}
+use Rattle.std.proofs.lemmas.Bool.{and_parts, leb-true, ltb-true, le-leb, lt-ltb, cases_lt}
 use Rattle.std.proofs.lemmas.Nat.{div-mul-add, mod-mul-add, div-add-mod'}
 use Rattle.std.proofs.lemmas.List.{length-append}
 use Rattle.css_semantics.specs.Tasks.{Window, rows_have, has_byte}
@@ -8,7 +8,6 @@ use Rattle.css_semantics.specs.Memory.{is_between}
 use Rattle.css_semantics.specs.Rules.{is_in_row, is_in_window}
 use Rattle.css_record.specs.Windows.{IsWindow}
 use Rattle.css_task.specs.Cells.{run, rows_addresses, window_addresses}
-use Rattle.css_task.specs.Placing.{IsAt}
 
 or_true : (b : Bool) → (b || true) ≡ true
 or_true true = refl

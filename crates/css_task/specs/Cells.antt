@@ -1,5 +1,5 @@
 -- The bytes that a task is given, as one list: those of each window row by row, the windows in order.
-use Rattle.std.specs.Prelude.{ℕ, zero, suc, ◌+◌, ◌-◌, Bool, true, false, not, ◌&&◌, List, [], ◌∷◌, ◌++◌, length, take, drop, get_or, replicate, slice_index, Option, Some, None, option_map, ◌==◌, if◌then◌else◌}
+use Rattle.std.specs.Prelude.{ℕ, zero, suc, ◌+◌, Bool, false, not, ◌&&◌, List, [], ◌∷◌, ◌++◌, length, take, drop, get_or, replicate, slice_index, Option, Some, None, option_map, ◌==◌, if◌then◌else◌}
 use Rattle.css_semantics.specs.Dialogue.{Action, Reply}
 use Rattle.css_semantics.specs.Actions.{Access, Enters, Leaves, Loads, Stores, Allots, NoAccess, access_of}
 use Rattle.css_semantics.specs.Memory.{is_between, overlaid}
@@ -99,7 +99,12 @@ kept_left m size = record { uses = m.uses; place = m.place; stack = drop size m.
 
 abbrev pub kept_behind : Kept → Access → Kept
 kept_behind m (Enters size) = record {
-  uses = m.uses; place = m.place; stack = replicate size 0 ++ m.stack; frames = size ∷ m.frames; bytes = m.bytes; unwritten = m.unwritten
+  uses = m.uses;
+  place = m.place;
+  stack = replicate size 0 ++ m.stack;
+  frames = size ∷ m.frames;
+  bytes = m.bytes;
+  unwritten = m.unwritten;
 }
 kept_behind m (Leaves base size) = if is_innermost (stack_of (room m)) m.frames base size then kept_left m size else m
 kept_behind m (Loads address width) = m

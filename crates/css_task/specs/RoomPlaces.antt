@@ -1,5 +1,5 @@
 -- The stack place of a task's room: entries and leavings move it by a frame's size, and nothing else moves it.
-use Rattle.std.proofs.Common.{◌≡◌, ℕ, ◌+◌, ◌-◌, ◌≤◌, List, length, drop, Bool, true, false, refl, ap, ◌∙◌, arith, ◌==◌, nat_le, ◌&&◌, if◌then◌else◌}
+use Rattle.std.proofs.Common.{◌≡◌, ℕ, ◌+◌, ◌-◌, List, length, drop, Bool, true, false, refl, ap, ◌∙◌, arith, ◌==◌, nat_le, ◌&&◌, if◌then◌else◌}
 use Rattle.std.proofs.lemmas.List.{length-drop}
 use Rattle.std.proofs.lemmas.Bool.{and_parts, leb-true, eqb-true}
 use Rattle.css_semantics.specs.Dialogue.{Enter, Leave, Load, Store, Says, Fails}

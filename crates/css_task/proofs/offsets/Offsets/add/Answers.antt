@@ -1,6 +1,6 @@
-use Rattle.std.proofs.Common.{◌≡◌, ◌+◌, ◌*◌, ◌≤◌, suc, length, set, ap, sym, ◌∙◌, arith}
-use Rattle.css_task.specs.OffsetSets.{has_bit, members}
-use Rattle.css_task.proofs.OffsetBits.{with_is, counted_with, length_with, one_added, at_most}
+use Rattle.std.proofs.Common.{◌*◌, length, sym, ◌∙◌, arith}
+use Rattle.css_task.specs.OffsetSets.{has_bit}
+use Rattle.css_task.proofs.OffsetBits.{with_is, length_with, one_added, at_most}
 use Rattle.css_task.proofs.offsets.Offsets.add.Goals as goal
 
 pub overflow_add-self : goal.overflow_add-self

@@ -1,4 +1,4 @@
-use Rattle.std.proofs.Common.{◌≡◌, sym, ◌∙◌, arith}
+use Rattle.std.proofs.Common.{sym, ◌∙◌, arith}
 use Rattle.css_task.specs.OffsetSets.{has_bit}
 use Rattle.css_task.proofs.CellAccess.{one_passes, none_more}
 use Rattle.css_task.proofs.offsets.Offsets.any.Goals as goal

@@ -1,6 +1,6 @@
-use Rattle.std.proofs.Common.{◌≡◌, ◌*◌, ℕ, false, length, sym, ◌∙◌, arith, ◌==◌}
+use Rattle.std.proofs.Common.{◌*◌, length, sym, ◌∙◌, ◌==◌}
 use Rattle.std.proofs.lemmas.Bool.{eqb-true, eq-eqb}
-use Rattle.css_task.specs.OffsetSets.{has_bit, members}
+use Rattle.css_task.specs.OffsetSets.{has_bit}
 use Rattle.css_task.proofs.OffsetBits.{not_both, none_everywhere, some_there}
 use Rattle.css_task.proofs.offsets.Offsets.is_empty.Goals as goal
 

@@ -1,6 +1,6 @@
-use Rattle.std.proofs.Common.{◌≡◌, ◌*◌, ◌/◌, length, sym, ◌∙◌, arith}
+use Rattle.std.proofs.Common.{◌*◌, length, sym, arith}
 use Rattle.std.proofs.Math.Nat.{div-add-mod}
-use Rattle.css_task.specs.OffsetSets.{has_bit, members}
+use Rattle.css_task.specs.OffsetSets.{has_bit}
 use Rattle.css_task.proofs.OffsetBits.{members_none, no_bits}
 use Rattle.css_task.proofs.offsets.Offsets.new.Goals as goal
 

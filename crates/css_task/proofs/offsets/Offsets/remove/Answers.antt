@@ -1,5 +1,4 @@
-use Rattle.std.proofs.Common.{◌≡◌, ◌+◌, ◌*◌, ◌≤◌, suc, length, set, ap, sym, ◌∙◌, arith}
-use Rattle.css_task.specs.OffsetSets.{has_bit, members}
+use Rattle.std.proofs.Common.{sym, ◌∙◌, arith}
 use Rattle.css_task.proofs.OffsetBits.{without_is, counted_without, length_without, one_taken}
 use Rattle.css_task.proofs.offsets.Offsets.remove.Goals as goal
 

@@ -14,8 +14,8 @@ returns-then-column-count-clause-has c =
 
 pub returns-else-row-window-clause-has : goal.returns-else-row-window-clause-has
 returns-else-row-window-clause-has c = elim c.else-row-window.branch [
-      | else-row-window-via-then-row-window+else-column-count w ↦
-          over_end (window c.args.self.now.window) c.requires.window c.args.address c.args.count c.requires.some (omega arith) (omega arith)
-      | else-row-window-via-else-row-window w ↦
-          no_row (window c.args.self.now.window) c.requires.window c.args.address c.args.count c.requires.some (omega arith) (omega arith)
-    ]
+  | else-row-window-via-then-row-window+else-column-count w ↦
+      over_end (window c.args.self.now.window) c.requires.window c.args.address c.args.count c.requires.some (omega arith) (omega arith)
+  | else-row-window-via-else-row-window w ↦
+      no_row (window c.args.self.now.window) c.requires.window c.args.address c.args.count c.requires.some (omega arith) (omega arith)
+]

@@ -1,4 +1,4 @@
-use Rattle.std.proofs.Common.{◌≡◌, ◌+◌, ◌-◌, ◌*◌, ◌≤◌, length, take, drop, ap, sym, ◌∙◌, arith}
+use Rattle.std.proofs.Common.{◌≡◌, ◌+◌, ◌-◌, ◌≤◌, length, take, drop, ap, sym, ◌∙◌, arith}
 use Rattle.css_semantics.specs.Dialogue.{Load}
 use Rattle.css_semantics.specs.Memory.{big_endian}
 use Rattle.css_vm.specs.Spaces.{bytes_of}

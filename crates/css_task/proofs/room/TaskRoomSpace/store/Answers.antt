@@ -1,4 +1,4 @@
-use Rattle.std.proofs.Common.{◌≡◌, ◌+◌, ◌-◌, ◌*◌, ◌≤◌, length, take, drop, ap, sym, ◌∙◌, arith}
+use Rattle.std.proofs.Common.{length, ap, sym, ◌∙◌, arith}
 use Rattle.css_semantics.specs.Dialogue.{Store}
 use Rattle.std.proofs.lemmas.List.{with_items_is}
 use Rattle.css_semantics.specs.Memory.{big_endian_bytes, overlaid}
@@ -20,9 +20,11 @@ pub returns-in-Ok-clause-says : goal.returns-in-Ok-clause-says
 returns-in-Ok-clause-says c =
     let m = c.self.inside in
     let new = big_endian_bytes (bytes_of c.args.width) c.args.value in
-    let says = c.in-Ok.ensures.says in
-    (0, ap (λ k. kept_reply k (Store c.args.address new)) (sym c.self.view_is)
-    ∙ stores_stack m.windows.all.items m.stack m.bytes.items m.unwritten.words.items c.self.invariant c.args.address new says.0 says.1)
+    let says = c.in-Ok.ensures.says in (
+      0,
+      ap (λ k. kept_reply k (Store c.args.address new)) (sym c.self.view_is)
+          ∙ stores_stack m.windows.all.items m.stack m.bytes.items m.unwritten.words.items c.self.invariant c.args.address new says.0 says.1,
+    )
 
 pub returns-in-Ok-clause-learns : goal.returns-in-Ok-clause-learns
 returns-in-Ok-clause-learns c =
@@ -68,10 +70,12 @@ invariant_of-self-2 c =
 pub returns-clause-says : goal.returns-clause-says
 returns-clause-says c =
     let m = c.self.inside in
-    let new = big_endian_bytes (bytes_of c.args.width) c.args.value in
-    (0, ap (λ k. kept_reply k (Store c.args.address new)) (sym c.self.view_is)
-    ∙ number_says m.windows.all.items m.stack m.bytes.items m.unwritten.words.items c.self.invariant c.args.address c.in-Some.hit.offset c.byte_count-count.result c.args.width c.args.value
-    c.in-Some.hit.direction c.byte_count-count.ensures c.in-Some.ensures.is c.in-Some.ensures.has (sym c.is_writable.ensures ∙ c.if-not-is_writable.false))
+    let new = big_endian_bytes (bytes_of c.args.width) c.args.value in (
+      0,
+      ap (λ k. kept_reply k (Store c.args.address new)) (sym c.self.view_is)
+          ∙ number_says m.windows.all.items m.stack m.bytes.items m.unwritten.words.items c.self.invariant c.args.address c.in-Some.hit.offset c.byte_count-count.result c.args.width c.args.value
+          c.in-Some.hit.direction c.byte_count-count.ensures c.in-Some.ensures.is c.in-Some.ensures.has (sym c.is_writable.ensures ∙ c.if-not-is_writable.false),
+    )
 
 pub returns-clause-learns : goal.returns-clause-learns
 returns-clause-learns c =

@@ -1,7 +1,7 @@
 use Rattle.std.proofs.Common.{◌≡◌, drop}
 use Rattle.std.specs.List.{list_any}
 use Rattle.css_semantics.specs.Rules.{is_in_window}
-use Rattle.css_task.specs.Placing.{uses_of, ArePlaced}
+use Rattle.css_task.specs.Placing.{uses_of}
 use Rattle.css_task.proofs.windows.Windows.find.Given as goal
 
 abbrev pub invariant-loop-number : goal.invariant-loop-number

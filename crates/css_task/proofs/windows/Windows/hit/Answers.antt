@@ -1,7 +1,5 @@
-use Rattle.std.proofs.Common.{◌≡◌, ◌||◌, length, map, slice_get, Some, ap, sym, ◌∙◌, refl, arith}
+use Rattle.std.proofs.Common.{length, refl, arith}
 use Rattle.std.proofs.lemmas.Option.{slice_get_read}
-use Rattle.css_record.specs.Windows.{window}
-use Rattle.css_task.specs.declared.placed.Placed.{Placed}
 use Rattle.css_task.proofs.Hits.{is_hit, fits_first, in_some}
 use Rattle.css_task.proofs.windows.Windows.hit.Goals as goal
 
