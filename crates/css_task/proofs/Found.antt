@@ -17,7 +17,7 @@ zero_plus n = omega arith
 plus_zero : (n : ℕ) → n ≡ n + 0
 plus_zero n = omega arith
 
-replicate_at : {X : Type 0} (x : X) (n k : ℕ) → k < n → slice_get (replicate n x) k ≡ Some x
+pub replicate_at : {X : Type 0} (x : X) (n k : ℕ) → k < n → slice_get (replicate n x) k ≡ Some x
 replicate_at x zero k below = absurd (omega (arith, below))
 replicate_at x (suc n) zero below = refl
 replicate_at x (suc n) (suc k) below = replicate_at x n k (omega (arith, below))

@@ -4,6 +4,7 @@ pub mod KeptMemory
 pub mod Quiet
 pub mod OffsetSets
 pub mod Rooms
+pub mod GivenBytes
 pub mod IsRoom
 pub mod RoomPlaces
 pub mod Keeping
