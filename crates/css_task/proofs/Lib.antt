@@ -9,6 +9,7 @@ pub mod Quiet
 pub mod OffsetBits
 pub mod RoomWorlds
 pub mod Found
+pub mod LeftBytes
 pub mod Returns
 pub mod EntryBytes
 pub mod Entering
