@@ -198,14 +198,20 @@ module _ (u : Use) (uses : List Use) (inputs : List (List ℕ)) (window : IsWind
       let first = reads_first u uses inputs is fit in
       elim (later (drop 1 inputs) first.rest) [
         | inl same ↦ inl (omega (arith, same, above, above'))
-        | inr fixed ↦ inr (fixed_behind u uses i above fixed.0, fixed_behind u uses k above' fixed.1,
-            behind_read u uses inputs i is first.long above ∙ fixed.2 ∙ sym (behind_read u uses inputs k is first.long above'))
+        | inr fixed ↦ inr (
+          fixed_behind u uses i above fixed.0,
+          fixed_behind u uses k above' fixed.1,
+          behind_read u uses inputs i is first.long above ∙ fixed.2 ∙ sym (behind_read u uses inputs k is first.long above'),
+        )
       ]
   shift_by false is i k above above' later =
       elim (later inputs (reads_none u uses inputs is fit)) [
         | inl same ↦ inl (omega (arith, same, above, above'))
-        | inr fixed ↦ inr (fixed_behind u uses i above fixed.0, fixed_behind u uses k above' fixed.1,
-            behind_not u uses inputs i is above ∙ fixed.2 ∙ sym (behind_not u uses inputs k is above'))
+        | inr fixed ↦ inr (
+          fixed_behind u uses i above fixed.0,
+          fixed_behind u uses k above' fixed.1,
+          behind_not u uses inputs i is above ∙ fixed.2 ∙ sym (behind_not u uses inputs k is above'),
+        )
       ]
 
   here : (i at : ℕ) → i < n → slice_get (addresses (u ∷ uses)) i ≡ Some at → slice_get (window_addresses u.window) i ≡ Some at

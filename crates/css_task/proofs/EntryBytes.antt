@@ -65,8 +65,8 @@ row_look : (width base : ℕ) (row rest all : List ℕ) (at : ℕ) → length ro
     → look (row ++ rest) (run base width ++ all) at ≡ (if is_between base (base + width) at then Some (slice_index row (at - base)) else look rest all at)
 row_look zero base [] rest all at long =
     let outside : is_between base (base + 0) at ≡ false = none_by (is_between base (base + 0) at) (λ within.
-        let parts = between_parts base (base + 0) at within in
-        absurd (omega (arith, parts.0, parts.1))) in
+    let parts = between_parts base (base + 0) at within in
+    absurd (omega (arith, parts.0, parts.1))) in
     rw outside
 row_look zero base (b ∷ row) rest all at long = absurd (cc)
 row_look (suc width) base [] rest all at long = absurd (cc)

@@ -50,6 +50,6 @@ module _ (uses : List Use) (end : ℕ) (stack frames bytes words : List ℕ) (ar
       ap₂ (λ a b. a ++ b)
       (row_left base width index fits (λ t below. ap (slice_get (addresses uses)) (at t) ∙ stand 0 t (omega arith) below ∙ ap Some (at' t)))
       (rows_left rows (base + stride) width stride (index + width) fits' (λ row column below below'.
-          ap (slice_get (addresses uses)) (there row column) ∙ stand (suc row) column (omega (arith, below)) below' ∙ ap Some (there' row column)))
+      ap (slice_get (addresses uses)) (there row column) ∙ stand (suc row) column (omega (arith, below)) below' ∙ ap Some (there' row column)))
       ∙ ap (λ xs. take width (drop index bytes) ++ take (rows * width) xs) (sym (drop-drop width index bytes))
       ∙ take_more width (rows * width) (drop index bytes) ∙ ap (λ n. take n (drop index bytes)) all
