@@ -1,5 +1,5 @@
 -- Before a task's entry: the bytes that it is given, which agree wherever its windows share an address.
-use Rattle.std.proofs.Common.{◌≡◌, ℕ, zero, suc, ◌+◌, ◌-◌, ◌*◌, ◌<◌, ◌≤◌, Bool, true, false, not, List, [], ◌∷◌, ◌++◌, length, take, drop, replicate, map, filter, slice_get, slice_index, All, Some, ◌⊎◌, ◌||◌, inl, inr, refl, ap, sym, subst, ◌∙◌, arith, if◌then◌else◌}
+use Rattle.std.proofs.Common.{◌≡◌, ℕ, suc, ◌+◌, ◌-◌, ◌<◌, ◌≤◌, Bool, true, false, not, List, [], ◌∷◌, ◌++◌, length, drop, replicate, map, filter, slice_get, slice_index, All, Some, ◌⊎◌, inl, inr, refl, ap, sym, ◌∙◌, arith, if◌then◌else◌}
 use Rattle.std.proofs.lemmas.Bool.{cases_lt}
 use Rattle.std.proofs.lemmas.Bool.Decides.{nat_tests}
 use Rattle.std.proofs.lemmas.List.{length-append, length-replicate, get_or_append_left, get_or-append-add}
@@ -17,7 +17,7 @@ use Rattle.css_record.specs.Records.{AgreeInBytes, AllAgree, InputsFit, IsClearO
 use Rattle.css_task.specs.Cells.{window_addresses, addresses, flags}
 use Rattle.css_task.specs.Keeping.{is_fixed, IsFixed, Agree}
 use Rattle.css_task.specs.GivenBytes.{given_bytes}
-use Rattle.css_task.proofs.Rows.{get-left, get-right, get-behind, has_found, one_offset}
+use Rattle.css_task.proofs.Rows.{get-left, get-behind, has_found, one_offset}
 use Rattle.css_task.proofs.Found.{length-window, replicate_at}
 
 -- ---- inputs

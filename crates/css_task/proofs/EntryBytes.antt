@@ -5,9 +5,9 @@ use Rattle.std.proofs.lemmas.Bool.Decides.{nat_tests}
 use Rattle.std.proofs.lemmas.List.{length-take, length-drop, length-replicate, take-append-drop}
 use Rattle.css_semantics.specs.Memory.{is_between}
 use Rattle.css_semantics.specs.Tasks.{Use, window_length, reads}
-use Rattle.css_semantics.specs.Alone.{Region, rows_as_regions, regions_of, given_regions, first_input}
+use Rattle.css_semantics.specs.Alone.{Region, rows_as_regions, given_regions, first_input}
 use Rattle.css_record.specs.Records.{InputsFit}
-use Rattle.css_task.specs.Cells.{run, rows_addresses, window_addresses, addresses, cell}
+use Rattle.css_task.specs.Cells.{run, rows_addresses, addresses, cell}
 use Rattle.css_task.specs.GivenBytes.{given_bytes}
 use Rattle.css_task.proofs.RoomWorlds.{byte_in}
 use Rattle.css_task.proofs.Entering.{reads_first, reads_none}

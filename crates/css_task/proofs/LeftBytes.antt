@@ -1,9 +1,9 @@
 -- What a task leaves in a window is what is kept of the window's bytes.
-use Rattle.std.proofs.Common.{◌≡◌, ℕ, zero, suc, ◌+◌, ◌-◌, ◌*◌, ◌<◌, ◌≤◌, List, [], ◌∷◌, ◌++◌, length, take, drop, slice_get, Some, refl, ap, ap₂, sym, ◌∙◌, arith}
+use Rattle.std.proofs.Common.{◌≡◌, ℕ, zero, suc, ◌+◌, ◌*◌, ◌<◌, ◌≤◌, List, [], ◌∷◌, ◌++◌, length, take, drop, slice_get, Some, refl, ap, ap₂, sym, ◌∙◌, arith}
 use Rattle.std.proofs.lemmas.List.{drop-drop}
 use Rattle.css_semantics.specs.Tasks.{Use}
 use Rattle.css_semantics.specs.Alone.{Solitude, task_bytes, bytes_left}
-use Rattle.css_task.specs.Cells.{addresses, Kept, room}
+use Rattle.css_task.specs.Cells.{addresses, room}
 use Rattle.css_task.specs.Keeping.{AreKept, kept}
 use Rattle.css_task.proofs.RoomWorlds.{room_of, bytes_are}
 use Rattle.css_task.proofs.CellAccess.{window_bytes}

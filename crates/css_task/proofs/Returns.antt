@@ -1,11 +1,11 @@
 -- A task returns exactly where no byte is left that it has yet to write.
-use Rattle.std.proofs.Common.{◌≡◌, ℕ, Bool, true, false, not, ◌&&◌, ◌||◌, List, [], ◌∷◌, refl, ap, ◌∙◌}
+use Rattle.std.proofs.Common.{◌≡◌, ℕ, Bool, true, false, not, ◌&&◌, ◌||◌, List, [], ◌∷◌, refl, ap}
 use Rattle.std.specs.List.{list_any}
 use Rattle.std.proofs.lemmas.Bool.{and_parts}
 use Rattle.css_base.specs.declared.limits.Limits.{Limits}
 use Rattle.css_base.specs.declared.rule.Rule.TheVariants as rules
 use Rattle.css_semantics.specs.Dialogue.{Returns, Says, Refuses}
-use Rattle.css_semantics.specs.Tasks.{Use, Body, has_byte, reads}
+use Rattle.css_semantics.specs.Tasks.{Use, has_byte, reads}
 use Rattle.css_semantics.specs.Rules.{check, first_broken, judged_reply, all_of_window, is_unwritten, is_given_for, has_stored}
 use Rattle.css_semantics.specs.Alone.{Solitude, alone_reply}
 use Rattle.css_semantics.proofs.Windows.{window_by, window_gives}
