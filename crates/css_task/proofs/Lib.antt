@@ -6,4 +6,16 @@ pub mod Stored
 pub mod Frames
 pub mod Spaces
 pub mod Quiet
+pub mod OffsetBits
+pub mod RoomWorlds
+pub mod Found
+pub mod LeftBytes
+pub mod Returns
+pub mod EntryBytes
+pub mod Entering
+pub mod RoomSteps
+pub mod Hits
+pub mod CellAccess
+pub mod Rows
+pub mod KeptRooms
 pub mod Arrivals

@@ -23,7 +23,7 @@ use Rattle.css_record.specs.Windows.{window}
 use Rattle.css_record.specs.Records.{FitsCode, AreGiven, uses, arguments}
 use Rattle.css_task.specs.Arrivals.{Arrives}
 use Rattle.css_task.specs.Quiet.{IsQuietState}
-use Rattle.css_task.specs.Alone.{TaskOf, IsPlainTask, InputsOf, IsAlone, ComesTo, Halted, Outs}
+use Rattle.css_task.specs.Alone.{TaskOf, IsPlainTask, InputsOf, IsAlone, Halted, Outs}
 use Rattle.css_task.specs.Regions.{regions_by, AreParted}
 use Rattle.css_task.proofs.OneTask.{some_same, one_shape}
 use Rattle.css_task.proofs.Ends.{stopped, ended_stopped, ended_outs}
