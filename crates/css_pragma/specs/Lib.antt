@@ -1,0 +1,4 @@
+pub mod Directives
+pub mod Effects
+pub mod Readings
+pub mod Refusals
