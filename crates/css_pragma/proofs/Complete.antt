@@ -2,6 +2,7 @@
 use Rattle.std.proofs.Common.{◌≡◌, ℕ, List, [], ◌∷◌, ◌++◌, codes, false, bytes_eq, refl, sym, subst}
 use Rattle.css_base.specs.Tokens.{Punctuator, Lexeme}
 use Rattle.css_tree.specs.declared.scope.Scope.{Scope}
+use Rattle.css_tree.specs.declared.scope.Scope.TheVariants as scopes
 use Rattle.css_tree.specs.Syntax.{Expression, Argument, Plain, Strided, Clause, Arguments, HighPriority, Directive, Start, Finish, Barrier, Wait, Task}
 use Rattle.css_pexpr.specs.declared.level.Level.{Level}
 use Rattle.css_pexpr.specs.declared.level.Level.TheVariants as levels
@@ -33,17 +34,17 @@ record IsEnd (ts : List Lexeme) : Type 0 where
   pub no_size : IsNoNext (Punctuator (codes "[")) ts
   pub no_block : IsNoNext (Punctuator (codes "{")) ts
 
-further_end : (ts : List Lexeme) (all : List Argument) {rest : List Lexeme} → SpellsFurther ts all rest → IsEnd ts
-further_end ts [] n = record { no_size = λ b m. apart n m refl; no_block = λ b m. apart n m refl }
-further_end ts (a ∷ all) (behind, next, n, s, more) = record { no_size = λ b m. apart n m refl; no_block = λ b m. apart n m refl }
+further_end : (ts : List Lexeme) (all : List Argument) (rest : List Lexeme) → SpellsFurther ts all rest → IsEnd ts
+further_end ts [] rest n = record { no_size = λ b m. apart n m refl; no_block = λ b m. apart n m refl }
+further_end ts (a ∷ all) rest (behind, next, n, s, more) = record { no_size = λ b m. apart n m refl; no_block = λ b m. apart n m refl }
 
-sizes_read : (ts : List Lexeme) (sizes : List Expression) {rest : List Lexeme} → IsEnd rest → SpellsSizes ts sizes rest → ReadsSizes ts sizes rest
-sizes_read ts [] end s = (s, subst (IsNoNext (Punctuator (codes "["))) (sym s) end.no_size)
-sizes_read ts (e ∷ es) end (inside, behind, n, c, more) = (inside, behind, n, closed_read refl c, sizes_read behind es end more)
+sizes_read : (ts : List Lexeme) (sizes : List Expression) (rest : List Lexeme) → IsEnd rest → SpellsSizes ts sizes rest → ReadsSizes ts sizes rest
+sizes_read ts [] rest end s = (s, subst (IsNoNext (Punctuator (codes "["))) (sym s) end.no_size)
+sizes_read ts (e ∷ es) rest end (inside, behind, n, c, more) = (inside, behind, n, closed_read refl c, sizes_read behind es rest end more)
 
-no_block_next : (ts : List Lexeme) (sizes : List Expression) {rest : List Lexeme} → IsEnd rest → SpellsSizes ts sizes rest → IsNoNext (Punctuator (codes "{")) ts
-no_block_next ts [] end s = subst (IsNoNext (Punctuator (codes "{"))) (sym s) end.no_block
-no_block_next ts (e ∷ es) end (inside, behind, n, c, more) = λ b m. apart n m refl
+no_block_next : (ts : List Lexeme) (sizes : List Expression) (rest : List Lexeme) → IsEnd rest → SpellsSizes ts sizes rest → IsNoNext (Punctuator (codes "{")) ts
+no_block_next ts [] rest end s = subst (IsNoNext (Punctuator (codes "{"))) (sym s) end.no_block
+no_block_next ts (e ∷ es) rest end (inside, behind, n, c, more) = λ b m. apart n m refl
 
 three_read : {ts rest : List Lexeme} {r w s : Expression} → SpellsThree ts r w s rest → ReadsThree ts r w s rest
 three_read x = record {
@@ -54,45 +55,45 @@ three_read x = record {
   reads_stride = closed_read refl x.spells_stride;
 }
 
-argument_read : (ts : List Lexeme) (a : Argument) {rest : List Lexeme} → IsEnd rest → SpellsArgument ts a rest → ReadsArgument ts a rest
-argument_read ts (Plain name sizes) end (behind, n, s) =
-    record { behind = behind; reads_name = n; reads_behind = (no_block_next behind sizes end s, sizes_read behind sizes end s) }
-argument_read ts (Strided name rows width stride) end (behind, inside, n, o, three) =
+argument_read : (ts : List Lexeme) (a : Argument) (rest : List Lexeme) → IsEnd rest → SpellsArgument ts a rest → ReadsArgument ts a rest
+argument_read ts (Plain name sizes) rest end (behind, n, s) =
+    record { behind = behind; reads_name = n; reads_behind = (no_block_next behind sizes rest end s, sizes_read behind sizes rest end s) }
+argument_read ts (Strided name rows width stride) rest end (behind, inside, n, o, three) =
     record { behind = behind; reads_name = n; reads_behind = (inside, o, three_read three) }
 
-further_read : (ts : List Lexeme) (all : List Argument) {rest : List Lexeme} → SpellsFurther ts all rest → ReadsFurther ts all rest
-further_read ts [] s = s
-further_read ts (a ∷ all) (behind, next, n, s, more) = (behind, next, n, argument_read behind a (further_end next all more) s, further_read next all more)
+further_read : (ts : List Lexeme) (all : List Argument) (rest : List Lexeme) → SpellsFurther ts all rest → ReadsFurther ts all rest
+further_read ts [] rest s = s
+further_read ts (a ∷ all) rest (behind, next, n, s, more) = (behind, next, n, argument_read behind a next (further_end next all rest more) s, further_read next all rest more)
 
-arguments_read : (ts : List Lexeme) (all : List Argument) {rest : List Lexeme} → SpellsArguments ts all rest → ReadsArguments ts all rest
-arguments_read ts [] s = s
-arguments_read ts (a ∷ all) (next, s, more) = (next, argument_read ts a (further_end next all more) s, further_read next all more)
+arguments_read : (ts : List Lexeme) (all : List Argument) (rest : List Lexeme) → SpellsArguments ts all rest → ReadsArguments ts all rest
+arguments_read ts [] rest s = s
+arguments_read ts (a ∷ all) rest (next, s, more) = (next, argument_read ts a next (further_end next all rest more) s, further_read next all rest more)
 
 -- ---- clauses
 
-clause_read : (ts : List Lexeme) (c : Clause) {rest : List Lexeme} → SpellsClause ts c rest → ReadsClause ts c rest
-clause_read ts (Arguments d all) (behind, inside, n, o, s) = (behind, inside, n, o, arguments_read inside all s)
-clause_read ts HighPriority s = s
+clause_read : (ts : List Lexeme) (c : Clause) (rest : List Lexeme) → SpellsClause ts c rest → ReadsClause ts c rest
+clause_read ts (Arguments d all) rest (behind, inside, n, o, s) = (behind, inside, n, o, arguments_read inside all rest s)
+clause_read ts HighPriority rest s = s
 
 clauses_read : (ts : List Lexeme) (all : List Clause) → SpellsClauses ts all → ReadsClauses ts all
 clauses_read ts [] s = s
-clauses_read ts (c ∷ all) (rest, s, more) = (rest, clause_read ts c s, clauses_read rest all more)
+clauses_read ts (c ∷ all) (rest, s, more) = (rest, clause_read ts c rest s, clauses_read rest all more)
 
 -- ---- addresses
 
 -- a comma or a closing parenthesis comes behind each address
-address_read : (es : List Expression) {scope : Scope} {ts next rest : List Lexeme} {e : Expression} → SpellsPart scope levels.Assign ts e next → SpellsFurtherAddresses next es rest
+address_read : (es : List Expression) (scope : Scope) (ts next rest : List Lexeme) (e : Expression) → SpellsPart scope levels.Assign ts e next → SpellsFurtherAddresses next es rest
     → ReadsExpression scope levels.Assign 500 ts e next
-address_read [] s n = part_read refl s n
-address_read (f ∷ es) s (behind, after, n, other, more) = part_read refl s n
+address_read [] scope ts next rest e s n = part_read refl s n
+address_read (f ∷ es) scope ts next rest e s (behind, after, n, other, more) = part_read refl s n
 
-further_addresses_read : (ts : List Lexeme) (all : List Expression) {rest : List Lexeme} → SpellsFurtherAddresses ts all rest → ReadsFurtherAddresses ts all rest
-further_addresses_read ts [] s = s
-further_addresses_read ts (e ∷ es) (behind, next, n, s, more) = (behind, next, n, address_read es s more, further_addresses_read next es more)
+further_addresses_read : (ts : List Lexeme) (all : List Expression) (rest : List Lexeme) → SpellsFurtherAddresses ts all rest → ReadsFurtherAddresses ts all rest
+further_addresses_read ts [] rest s = s
+further_addresses_read ts (e ∷ es) rest (behind, next, n, s, more) = (behind, next, n, address_read es scopes.Block behind next rest e s more, further_addresses_read next es rest more)
 
-addresses_read : (ts : List Lexeme) (all : List Expression) {rest : List Lexeme} → SpellsAddresses ts all rest → ReadsAddresses ts all rest
-addresses_read ts [] s = s
-addresses_read ts (e ∷ es) (next, s, more) = (next, address_read es s more, further_addresses_read next es more)
+addresses_read : (ts : List Lexeme) (all : List Expression) (rest : List Lexeme) → SpellsAddresses ts all rest → ReadsAddresses ts all rest
+addresses_read ts [] rest s = s
+addresses_read ts (e ∷ es) rest (next, s, more) = (next, address_read es scopes.Block ts next rest e s more, further_addresses_read next es rest more)
 
 -- ---- directives
 
@@ -103,6 +104,6 @@ directive_read places.InBlock line ts (Start own) s = s
 directive_read places.InBlock line ts (Finish own) s = s
 directive_read places.InBlock line ts (Barrier own) s = s
 directive_read places.InBlock line ts (Wait own all) (e, first, second, inside, w, o, p, s) =
-    (e, record { first = first; second = second; inside = inside; reads_wait = w; reads_on = o; opens = p; reads_addresses = addresses_read inside all s })
+    (e, record { first = first; second = second; inside = inside; reads_wait = w; reads_on = o; opens = p; reads_addresses = addresses_read inside all [] s })
 directive_read places.InBlock line ts (Task own clauses) s = absurd s
 directive_read places.BeforeFunction line ts d s = absurd s

@@ -74,7 +74,7 @@ pub one_more_clause : {whole : List Clause → List Lexeme → Type 0} (done : L
 one_more_clause done {ts} {next} c so r = one_more done c so (λ xs rest more. (next, r, more)) drop
   where
     drop : (xs : List Clause) (rest : List Lexeme) → ReadsClauses ts xs → (ys : List Clause) × ReadsClauses next ys
-    drop [] rest e = absurd (clause_some ts c r e)
+    drop [] rest e = absurd (clause_some ts c next r e)
     drop (x ∷ xs) rest (next', r', more) = (xs, subst (λ l. ReadsClauses l xs) (one_clause ts x c r' r).1 more)
 
 pub no_clauses : (ts : List Lexeme) (all : List Clause) → (ts ≡ [] → ⊥) → ((c : Clause) (next : List Lexeme) → ReadsClause ts c next → ⊥) → ReadsClauses ts all → ⊥

@@ -1,4 +1,6 @@
 pub mod Exits
+pub mod Lists
+pub mod Depth
 pub mod One
 pub mod Sound
 pub mod Complete

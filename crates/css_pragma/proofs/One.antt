@@ -118,14 +118,14 @@ one_clause ts (Arguments d xs) HighPriority (behind, inside, n, o, r) b = absurd
 one_clause ts HighPriority (Arguments e ys) a (behind, inside, n, o, r) = absurd (no_direction e (one_kind n a))
 one_clause ts HighPriority HighPriority a b = (refl, one_next a b)
 
-pub clause_some : (ts : List Lexeme) (c : Clause) {us : List Lexeme} → ReadsClause ts c us → ts ≡ [] → ⊥
-clause_some ts (Arguments d xs) (behind, inside, n, o, r) e = (let p = n.parts in let wrong : [] ≡ n.token ∷ behind = sym e ∙ p in cc)
-clause_some ts HighPriority {us} n e = (let p = n.parts in let wrong : [] ≡ n.token ∷ us = sym e ∙ p in cc)
+pub clause_some : (ts : List Lexeme) (c : Clause) (us : List Lexeme) → ReadsClause ts c us → ts ≡ [] → ⊥
+clause_some ts (Arguments d xs) us (behind, inside, n, o, r) e = (let p = n.parts in let wrong : [] ≡ n.token ∷ behind = sym e ∙ p in cc)
+clause_some ts HighPriority us n e = (let p = n.parts in let wrong : [] ≡ n.token ∷ us = sym e ∙ p in cc)
 
 pub one_clauses : (ts : List Lexeme) (xs ys : List Clause) → ReadsClauses ts xs → ReadsClauses ts ys → xs ≡ ys
 one_clauses ts [] [] a b = refl
-one_clauses ts [] (y ∷ ys) a (rest, r, more) = absurd (clause_some ts y r a)
-one_clauses ts (x ∷ xs) [] (rest, r, more) b = absurd (clause_some ts x r b)
+one_clauses ts [] (y ∷ ys) a (rest, r, more) = absurd (clause_some ts y rest r a)
+one_clauses ts (x ∷ xs) [] (rest, r, more) b = absurd (clause_some ts x rest r b)
 one_clauses ts (x ∷ xs) (y ∷ ys) (rest, r, more) (rest', r', more') =
     let first = one_clause ts x y r r' in
     ap₂ ◌∷◌ first.0 (one_clauses rest xs ys more (subst (λ l. ReadsClauses l ys) (sym first.1) more'))

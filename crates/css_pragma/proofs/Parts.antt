@@ -60,13 +60,13 @@ no_sizes {behind = behind} {rest} {a = a} n end none x = by a (subst (λ l. Read
     by (Plain other sizes) r = none sizes rest r.1
     by (Strided other rows width stride) (inside', o', three) = end inside' o'
 
-pub some_arguments : (ts : List Lexeme) (all : List Argument) {rest : List Lexeme} → ReadsSome ts all rest → ReadsArguments ts all rest
-some_arguments ts [] r = absurd r
-some_arguments ts (a ∷ all) r = r
+pub some_arguments : (ts : List Lexeme) (all : List Argument) (rest : List Lexeme) → ReadsSome ts all rest → ReadsArguments ts all rest
+some_arguments ts [] rest r = absurd r
+some_arguments ts (a ∷ all) rest r = r
 
-pub no_arguments : (ts : List Lexeme) (all : List Argument) {rest : List Lexeme} → IsNoNext (Punctuator (codes ")")) ts → ((others : List Argument) (next : List Lexeme) → ReadsSome ts others next → ⊥) → ReadsArguments ts all rest → ⊥
-no_arguments ts [] {rest} end none r = end rest r
-no_arguments ts (a ∷ all) {rest} end none r = none (a ∷ all) rest r
+pub no_arguments : (ts : List Lexeme) (all : List Argument) (rest : List Lexeme) → IsNoNext (Punctuator (codes ")")) ts → ((others : List Argument) (next : List Lexeme) → ReadsSome ts others next → ⊥) → ReadsArguments ts all rest → ⊥
+no_arguments ts [] rest end none r = end rest r
+no_arguments ts (a ∷ all) rest end none r = none (a ∷ all) rest r
 
 -- ---- clauses
 
@@ -101,12 +101,12 @@ no_wait_open w o none r =
 pub no_wait_on : {ts first : List Lexeme} {all : List Expression} → Next (Word (codes "wait")) ts first → IsNoNext (Word (codes "on")) first → ReadsWait ts all → ⊥
 no_wait_on w none r = none r.second (subst (λ l. Next (Word (codes "on")) l r.second) (one_next r.reads_wait w) r.reads_on)
 
-pub no_task : {ts rest : List Lexeme} {all : List Clause} → Next (Word (codes "task")) ts rest → ((others : List Clause) → ReadsClauses rest others → ⊥) → ReadsTask ts all → ⊥
-no_task {all = all} n none r = none all (subst (λ l. ReadsClauses l all) (one_next r.reads_task n) r.reads_clauses)
+pub no_task : {ts rest : List Lexeme} (all : List Clause) → Next (Word (codes "task")) ts rest → ((others : List Clause) → ReadsClauses rest others → ⊥) → ReadsTask ts all → ⊥
+no_task all n none r = none all (subst (λ l. ReadsClauses l all) (one_next r.reads_task n) r.reads_clauses)
 
 -- the clauses of a task that were read are all that are
-pub task_clauses : {ts rest : List Lexeme} {all others : List Clause} → Next (Word (codes "task")) ts rest → ReadsClauses rest all → ReadsTask ts others → count_by is_priority all ≤ 1
-task_clauses {rest = rest} {all} {others} n c r =
+pub task_clauses : {ts rest : List Lexeme} (all others : List Clause) → Next (Word (codes "task")) ts rest → ReadsClauses rest all → ReadsTask ts others → count_by is_priority all ≤ 1
+task_clauses {rest = rest} all others n c r =
     let same = one_clauses rest others all (subst (λ l. ReadsClauses l others) (one_next r.reads_task n) r.reads_clauses) c in
     subst (λ l. count_by is_priority l ≤ 1) same r.once
 
@@ -121,3 +121,8 @@ no_directive line ts (Task own all) start finish barrier wait r = r
 pub only_task : (line : ℕ) (ts : List Lexeme) (d : Directive) → ((all : List Clause) → ReadsTask ts all → ⊥) → ReadsDirective places.BeforeFunction line ts d → ⊥
 only_task line ts (Task own all) none r = none all r.1
 only_task line ts d none r = r
+
+-- arguments that aren't read behind one opening parenthesis aren't behind the same one
+pub no_open : {ts inside other : List Lexeme} (all : List Argument) (rest : List Lexeme) → Next (Punctuator (codes "(")) ts inside → Next (Punctuator (codes "(")) ts other → (ReadsArguments other all rest → ⊥)
+    → ReadsArguments inside all rest → ⊥
+no_open all rest n m none r = none (subst (λ l. ReadsArguments l all rest) (one_next n m) r)

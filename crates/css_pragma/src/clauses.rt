@@ -34,9 +34,15 @@ pub(crate) fn clauses(alloc: Global, tokens: &[Token]) -> Result<Vec<Clause>, Un
 
 /// How many of the clauses are `highpriority`.
 pub(crate) fn priorities(clauses: &[Clause]) -> usize
-    ensures { result ≡ count_by is_priority (map shapes.clause clauses.now) }
+    ensures { result ≡ count_by (λ c. is_priority (shapes.clause c)) clauses.now }
 {
-    clauses.iter().filter(|clause| is_priority(clause)).count()
+    let mut count = 0;
+    for clause in clauses {
+        if is_priority(clause) {
+            count += 1;
+        }
+    }
+    count
 }
 
 /// Whether the clause is `highpriority`.

@@ -1,5 +1,5 @@
 //! Expressions that do more than give a value.
-ghost use Rattle.std.specs.Prelude.{◌≡◌, map};
+ghost use Rattle.std.specs.Prelude.{◌≡◌};
 ghost use Rattle.std.specs.List.{list_any};
 ghost use Rattle.css_tree.specs.Shapes as shapes;
 ghost use Rattle.css_pragma.specs.Effects.{has_effect, argument_has_effect, clause_has_effect, directive_has_effect};
@@ -7,27 +7,44 @@ ghost use Rattle.css_pragma.specs.Effects.{has_effect, argument_has_effect, clau
 use css_tree::{Argument, Clause, Directive, Expression};
 
 /// Whether an expression of the directive holds an assignment, `++`, `--` or a call.
+#[tactic(auto, using(crate::proofs::Lists::list_any_mapped))]
 pub(crate) fn directive_has_effect(directive: &Directive) -> bool
     ensures { result ≡ directive_has_effect (shapes.directive directive.now) }
 {
     match directive {
         Directive::Wait { addresses, .. } => some_have_effects(addresses.as_slice()),
-        Directive::Task { clauses, .. } => clauses.iter().any(|clause| clause_has_effect(clause)),
+        Directive::Task { clauses, .. } => some_clauses(clauses.as_slice()),
         Directive::Start { .. } | Directive::Finish { .. } | Directive::Barrier { .. } => false,
     }
 }
 
+/// Whether one of the clauses has an effect.
+fn some_clauses(clauses: &[Clause]) -> bool
+    ensures { result ≡ list_any (λ c. clause_has_effect (shapes.clause c)) clauses.now }
+{
+    clauses.iter().any(|clause| clause_has_effect(clause))
+}
+
+#[tactic(auto, using(crate::proofs::Lists::list_any_mapped))]
 fn clause_has_effect(clause: &Clause) -> bool
     ensures { result ≡ clause_has_effect (shapes.clause clause.now) }
 {
     match clause {
-        Clause::Arguments { arguments, .. } => arguments
-            .iter()
-            .any(|argument| argument_has_effect(argument)),
+        Clause::Arguments { arguments, .. } => some_arguments(arguments.as_slice()),
         Clause::HighPriority => false,
     }
 }
 
+/// Whether one of the arguments has an effect.
+fn some_arguments(arguments: &[Argument]) -> bool
+    ensures { result ≡ list_any (λ a. argument_has_effect (shapes.argument a)) arguments.now }
+{
+    arguments
+        .iter()
+        .any(|argument| argument_has_effect(argument))
+}
+
+#[tactic(auto, using(crate::proofs::Lists::list_any_mapped))]
 fn argument_has_effect(argument: &Argument) -> bool
     ensures { result ≡ argument_has_effect (shapes.argument argument.now) }
 {
@@ -44,7 +61,7 @@ fn argument_has_effect(argument: &Argument) -> bool
 
 /// Whether one of the expressions has an effect.
 fn some_have_effects(expressions: &[Expression]) -> bool
-    ensures { result ≡ list_any has_effect (map shapes.expression expressions.now) }
+    ensures { result ≡ list_any (λ e. has_effect (shapes.expression e)) expressions.now }
 {
     expressions
         .iter()

@@ -1,0 +1,21 @@
+use Rattle.std.proofs.Common.{◌≡◌, List, [], length, map, refl, sym, ap, ◌∙◌, subst, arith}
+use Rattle.std.proofs.lemmas.List.{map-append}
+use Rattle.css_base.specs.Tokens.{lexemes}
+use Rattle.css_tree.specs.Shapes.{clause}
+use Rattle.css_parse.proofs.Gathering.{SoFar, all_read}
+use Rattle.css_pragma.proofs.Exits.{passed}
+use Rattle.css_pragma.proofs.Gathered.{Clauses, one_more_clause, no_clauses}
+use Rattle.css_pragma.proofs.Lists.{no_tokens, some_tokens}
+use Rattle.css_pragma.proofs.clauses.clauses.Goals as goal
+
+pub loop-rest-preserved : goal.loop-rest-preserved
+loop-rest-preserved c =
+    subst (λ l. SoFar (Clauses (lexemes c.args.tokens.now)) (Clauses (lexemes c.in_ok-next.behind.now)) l)
+    (sym (ap (map clause) c.in_ok-add.ensures.ok ∙ map-append clause c.loop-rest.all.items _))
+    (one_more_clause (map clause c.loop-rest.all.items) (clause c.in_ok-next.next) c.loop-rest.invariant c.in_ok-next.ensures.ok)
+
+pub returns-clause-ok : goal.returns-clause-ok
+returns-clause-ok c = ?
+
+pub returns-in_err-next-clause-not_spelled : goal.returns-in_err-next-clause-not_spelled
+returns-in_err-next-clause-not_spelled c = ?

@@ -1,0 +1,28 @@
+use Rattle.std.proofs.Common.{[]}
+use Rattle.css_base.specs.Tokens.{lexemes}
+use Rattle.css_tree.specs.Shapes.{expression}
+use Rattle.css_pragma.proofs.Exits.{passed}
+use Rattle.css_pragma.proofs.Lists.{no_tokens, some_tokens}
+use Rattle.css_pragma.proofs.One.{one_addresses}
+use Rattle.css_pragma.proofs.Parts.{no_wait, no_wait_open, no_wait_on}
+use Rattle.css_pragma.proofs.spelled.wait.Goals as goal
+
+pub returns-in_default-clause-not_spelled : goal.returns-in_default-clause-not_spelled
+returns-in_default-clause-not_spelled c = λ why all r. c.in_default.ensures.none r.first r.reads_wait
+
+pub returns-in_default-after_word-clause-not_spelled : goal.returns-in_default-after_word-clause-not_spelled
+returns-in_default-after_word-clause-not_spelled c = λ why all r. no_wait_on c.in-Some.ensures.found c.in_default-after_word.ensures.none r
+
+pub returns-in_default-after_mark-clause-not_spelled : goal.returns-in_default-after_mark-clause-not_spelled
+returns-in_default-after_mark-clause-not_spelled c = λ why all r. no_wait_open c.in-Some.ensures.found c.in-Some-after_word.ensures.found c.in_default-after_mark.ensures.none r
+
+pub returns-in_err-addresses-clause-not_spelled : goal.returns-in_err-addresses-clause-not_spelled
+returns-in_err-addresses-clause-not_spelled c = λ why all r.
+    no_wait c.in-Some.ensures.found c.in-Some-after_word.ensures.found c.in-Some-after_mark.ensures.found
+    (λ others read. c.in_err-addresses.ensures.not_spelled (passed c.from_residual.result c.in_err-addresses.field-0.0 c.from_residual.ensures.1 why) others [] read) r
+
+pub returns-then-not-is_empty-clause-not_spelled : goal.returns-then-not-is_empty-clause-not_spelled
+returns-then-not-is_empty-clause-not_spelled c = λ why all r. ?
+
+pub returns-clause-ok : goal.returns-clause-ok
+returns-clause-ok c = ?
