@@ -12,13 +12,16 @@ use Rattle.css_pragma.specs.declared.place.Place.{Place}
 use Rattle.css_pragma.specs.Directives.{SpellsDirective}
 use Rattle.css_pragma.specs.Effects.{directive_has_effect}
 use Rattle.css_pragma.specs.Refusals.{Spells, IsAccepted, IsRefused, IfRefused}
+use Rattle.css_tree.specs.Brackets.{IsShallow}
+use Rattle.css_pragma.specs.Readings.{ReadsDirective}
 use Rattle.css_pragma.proofs.One.{one_reading}
+use Rattle.css_pragma.proofs.Sound.{directive_spelled}
 use Rattle.css_pragma.proofs.Complete.{directive_read}
 
 pub one_directive : (place : Place) (line : ℕ) (ts : List Lexeme) (d e : Directive) → SpellsDirective place line ts d → SpellsDirective place line ts e → d ≡ e
 one_directive place line ts d e s t = one_reading place line ts d e (directive_read place line ts d s) (directive_read place line ts e t)
 
-abbrev made : StaticName → ℕ → StaticFault
+abbrev pub made : StaticName → ℕ → StaticFault
 made name line = record { name = name; line = line }
 
 same_fault : (f g : StaticFault) → f.name ≡ g.name → f.line ≡ g.line → f ≡ g
@@ -41,3 +44,12 @@ bad_directive place line ts f is none = subst (IfRefused place line ts) (sym is)
 
 pub side_effect : (place : Place) (line : ℕ) (ts : List Lexeme) (f : FrontFault) (d : Directive) → f ≡ faults.Static (made names.SideEffect line) → Spells place line ts d → directive_has_effect d ≡ true → IfRefused place line ts f
 side_effect place line ts f d is s e = subst (IfRefused place line ts) (sym is) (refl, inr (refl, (d, s, e)))
+
+pub spelled : (place : Place) (line : ℕ) (ts : List Lexeme) (d : Directive) → IsShallow ts → ReadsDirective place line ts d → Spells place line ts d
+spelled place line ts d shallow r = record { shallow = shallow; spelled = directive_spelled place line ts d r }
+
+pub accepted : (place : Place) (line : ℕ) (ts : List Lexeme) (d : Directive) → IsShallow ts → ReadsDirective place line ts d → directive_has_effect d ≡ false → IsAccepted place line ts d
+accepted place line ts d shallow r e = record { spells = spelled place line ts d shallow r; no_effect = e }
+
+pub not_spelled : (place : Place) (line : ℕ) (ts : List Lexeme) → ((d : Directive) → ReadsDirective place line ts d → ⊥) → (d : Directive) → Spells place line ts d → ⊥
+not_spelled place line ts none d s = none d (directive_read place line ts d s.spelled)

@@ -16,7 +16,14 @@ returns-in_err-clauses-clause-not_spelled c = λ why all r.
     no_task all c.in-Some.ensures.found (c.in_err-clauses.ensures.not_spelled (passed c.from_residual.result c.in_err-clauses.field-0.0 c.from_residual.ensures.1 why)) r
 
 pub returns-then-priorities-gt1-clause-not_spelled : goal.returns-then-priorities-gt1-clause-not_spelled
-returns-then-priorities-gt1-clause-not_spelled c = λ why all r. ?
+returns-then-priorities-gt1-clause-not_spelled c = λ why all r.
+    let once = task_clauses (map clause c.in_ok-clauses.clauses.items) all c.in-Some.ensures.found c.in_ok-clauses.ensures.ok r in
+    let same = c.priorities.ensures ∙ ap (count_by (λ x. is_priority (clause x))) c.as_slice.ensures.value ∙ sym (count_by_mapped is_priority clause c.in_ok-clauses.clauses.items) in
+    let many = c.if-priorities-gt1.true in
+    omega arith
 
 pub returns-clause-ok : goal.returns-clause-ok
-returns-clause-ok c = ?
+returns-clause-ok c =
+    let same = c.priorities.ensures ∙ ap (count_by (λ x. is_priority (clause x))) c.as_slice.ensures.value ∙ sym (count_by_mapped is_priority clause c.in_ok-clauses.clauses.items) in
+    let few = c.if-priorities-gt1.false in
+    record { rest = lexemes c.in-Some.rest.now; reads_task = c.in-Some.ensures.found; reads_clauses = c.in_ok-clauses.ensures.ok; once = omega arith }
