@@ -1,5 +1,5 @@
 -- What is spelled is read.
-use Rattle.std.proofs.Common.{◌≡◌, ℕ, List, [], ◌∷◌, ◌++◌, codes, false, bytes_eq, refl, sym, subst}
+use Rattle.std.proofs.Common.{ℕ, List, [], ◌∷◌, ◌++◌, codes, refl, sym, subst}
 use Rattle.css_base.specs.Tokens.{Punctuator, Lexeme}
 use Rattle.css_tree.specs.declared.scope.Scope.{Scope}
 use Rattle.css_tree.specs.declared.scope.Scope.TheVariants as scopes

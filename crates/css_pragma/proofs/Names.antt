@@ -1,5 +1,5 @@
 -- Tokens that are names by themselves.
-use Rattle.std.proofs.Common.{◌≡◌, ℕ, ◌+◌, ◌<◌, ◌≤◌, List, [], ◌∷◌, ◌++◌, length, take, drop, false, refl, sym, ap, ◌∙◌, subst, arith}
+use Rattle.std.proofs.Common.{◌≡◌, ℕ, ◌<◌, ◌≤◌, List, [], ◌∷◌, ◌++◌, length, take, drop, refl, ap, ◌∙◌, subst, arith}
 use Rattle.std.proofs.lemmas.List.{length-append}
 use Rattle.css_base.specs.declared.token.Token.{Token}
 use Rattle.css_base.specs.Tokens.{Word, Lexeme, lexeme, lexemes}
@@ -68,16 +68,18 @@ pub name_alone : (ts : List Token) {name : List ℕ} {rest : List Lexeme} → Re
 name_alone [] {name} {rest} r = (let p = r.word.parts in absurd cc)
 name_alone (t ∷ ts) {name} {rest} r =
     let p = r.word.parts in
-    let token : lexeme t ≡ r.word.token = cc in
-    (line_of (lexeme t), record {
-      longest = record {
-        front = lexeme t ∷ [];
-        parts = refl;
-        spells = spelled.Name name refl (lexeme t, [], refl, ap kind_at token ∙ r.word.is, refl) r.named;
-        longest = λ more behind other e b. (let size = ap length e ∙ length-append more behind in omega arith);
-      };
-      low = omega arith;
-    })
+    let token : lexeme t ≡ r.word.token = cc in (
+      line_of (lexeme t),
+      record {
+        longest = record {
+          front = lexeme t ∷ [];
+          parts = refl;
+          spells = spelled.Name name refl (lexeme t, [], refl, ap kind_at token ∙ r.word.is, refl) r.named;
+          longest = λ more behind other e b. (let size = ap length e ∙ length-append more behind in omega arith);
+        };
+        low = omega arith;
+      },
+    )
 
 pub name_some : {ts : List Lexeme} {name : List ℕ} {rest : List Lexeme} → ReadsName ts name rest → 0 < length ts
 name_some r = (let p = ap length r.word.parts in omega arith)

@@ -1,5 +1,5 @@
 -- Everything is read in one way.
-use Rattle.std.proofs.Common.{◌≡◌, ℕ, ◌≤◌, List, [], ◌∷◌, codes, false, bytes_eq, refl, sym, ap, ap₂, ◌∙◌, subst}
+use Rattle.std.proofs.Common.{◌≡◌, ℕ, List, [], ◌∷◌, codes, false, bytes_eq, refl, sym, ap, ap₂, ◌∙◌, subst}
 use Rattle.css_base.specs.declared.direction.Direction.{Direction}
 use Rattle.css_base.specs.declared.direction.Direction.TheVariants as directions
 use Rattle.css_base.specs.Tokens.{Word, Punctuator, Lexeme}
@@ -9,13 +9,13 @@ use Rattle.css_tree.specs.Syntax.{Expression, Argument, Plain, Strided, Clause, 
 use Rattle.css_pexpr.specs.declared.level.Level.{Level}
 use Rattle.css_pexpr.specs.declared.level.Level.TheVariants as levels
 use Rattle.css_parse.specs.Fronts.{Next}
-use Rattle.css_parse.specs.Readings.{ReadsExpression, ReadsName}
+use Rattle.css_parse.specs.Readings.{ReadsExpression}
 use Rattle.css_parse.proofs.FrontTokens.{one_next, one_kind, apart, differ_word}
 use Rattle.css_parse.proofs.OneDeclaration.{one_read, one_name}
 use Rattle.css_pragma.specs.declared.place.Place.{Place}
 use Rattle.css_pragma.specs.declared.place.Place.TheVariants as places
 use Rattle.css_pragma.specs.Directives.{direction_text}
-use Rattle.css_pragma.specs.Readings.{ReadsClosed, ReadsSizes, ReadsThree, ReadsBehind, name_of, ReadsArgument, ReadsFurther, ReadsSome, ReadsArguments, ReadsClause, ReadsClauses, ReadsFurtherAddresses, ReadsAddresses, ReadsWait, ReadsTask, ReadsDirective}
+use Rattle.css_pragma.specs.Readings.{ReadsClosed, ReadsSizes, ReadsThree, ReadsBehind, name_of, ReadsArgument, ReadsFurther, ReadsArguments, ReadsClause, ReadsClauses, ReadsFurtherAddresses, ReadsAddresses, ReadsWait, ReadsTask, ReadsDirective}
 
 pub one_closed : {scope : Scope} {level : Level} {close : List ℕ} {ts us vs : List Lexeme} {e other : Expression} → ReadsClosed scope level close ts e us → ReadsClosed scope level close ts other vs → (e ≡ other) × (us ≡ vs)
 one_closed {close = close} {us = us} a b =

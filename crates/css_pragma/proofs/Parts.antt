@@ -1,5 +1,5 @@
 -- What isn't read where a part of it isn't, and what is.
-use Rattle.std.proofs.Common.{◌≡◌, ℕ, ◌≤◌, List, [], ◌∷◌, codes, refl, sym, ap, ◌∙◌, subst}
+use Rattle.std.proofs.Common.{ℕ, ◌≤◌, List, [], ◌∷◌, codes, sym, subst}
 use Rattle.std.specs.List.{count_by}
 use Rattle.css_base.specs.declared.direction.Direction.{Direction}
 use Rattle.css_base.specs.Tokens.{Word, Punctuator, Lexeme}
@@ -14,8 +14,8 @@ use Rattle.css_parse.proofs.FrontTokens.{one_next, one_kind}
 use Rattle.css_parse.proofs.OneDeclaration.{one_read, one_name}
 use Rattle.css_pragma.specs.declared.place.Place.TheVariants as places
 use Rattle.css_pragma.specs.Directives.{direction_text, is_priority}
-use Rattle.css_pragma.specs.Readings.{ReadsClosed, ReadsSizes, ReadsThree, ReadsBlock, ReadsBehind, name_of, ReadsArgument, ReadsSome, ReadsArguments, ReadsClause, ReadsClauses, ReadsAddresses, ReadsWait, ReadsTask, ReadsDirective}
-use Rattle.css_pragma.proofs.One.{one_closed, one_arguments, one_direction, one_clauses, one_addresses, no_argument_closed}
+use Rattle.css_pragma.specs.Readings.{ReadsClosed, ReadsSizes, ReadsThree, ReadsBlock, ReadsBehind, ReadsArgument, ReadsSome, ReadsArguments, ReadsClause, ReadsClauses, ReadsAddresses, ReadsWait, ReadsTask, ReadsDirective}
+use Rattle.css_pragma.proofs.One.{one_closed, one_clauses}
 
 -- ---- expressions
 

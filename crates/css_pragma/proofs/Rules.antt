@@ -1,5 +1,5 @@
 -- Words are accepted or refused in one way.
-use Rattle.std.proofs.Common.{◌≡◌, ◌⊎◌, ℕ, List, Bool, true, false, refl, sym, ap, ◌∙◌, subst, inl, inr}
+use Rattle.std.proofs.Common.{◌≡◌, ℕ, List, true, false, refl, sym, ap, ◌∙◌, subst, inl, inr}
 use Rattle.std.proofs.lemmas.Bool.{false≢true}
 use Rattle.css_base.specs.Tokens.{Lexeme}
 use Rattle.css_base.specs.declared.static_fault.FrontFault.{FrontFault}

@@ -1,5 +1,5 @@
 -- Which words are refused, and how.
-use Rattle.std.specs.Prelude.{◌≡◌, ◌⊎◌, ℕ, List, Bool, true, false}
+use Rattle.std.specs.Prelude.{◌≡◌, ◌⊎◌, ℕ, List, true, false}
 use Rattle.css_base.specs.Tokens.{Lexeme}
 use Rattle.css_base.specs.declared.static_fault.FrontFault.{FrontFault}
 use Rattle.css_base.specs.declared.static_fault.FrontFault.TheVariants as faults

@@ -63,9 +63,7 @@ fn argument_has_effect(argument: &Argument) -> bool
 fn some_have_effects(expressions: &[Expression]) -> bool
     ensures { result ≡ list_any (λ e. has_effect (shapes.expression e)) expressions.now }
 {
-    expressions
-        .iter()
-        .any(|expression| has_effect(expression))
+    expressions.iter().any(|expression| has_effect(expression))
 }
 
 /// Whether the expression holds an assignment, `++`, `--` or a call.

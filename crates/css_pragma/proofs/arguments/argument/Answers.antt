@@ -1,6 +1,3 @@
-use Rattle.std.proofs.Common.{◌≡◌, sym, subst}
-use Rattle.css_base.specs.Tokens.{lexemes}
-use Rattle.css_tree.specs.Shapes.{argument}
 use Rattle.css_pragma.specs.Readings.{name_of}
 use Rattle.css_pragma.proofs.Exits.{passed}
 use Rattle.css_pragma.proofs.Parts.{no_block, no_sizes}

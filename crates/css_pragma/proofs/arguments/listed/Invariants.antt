@@ -1,7 +1,7 @@
 use Rattle.std.proofs.Common.{◌≤◌, length, map}
 use Rattle.css_base.specs.Tokens.{lexemes}
 use Rattle.css_tree.specs.Shapes.{argument}
-use Rattle.css_parse.proofs.Gathering.{SoFar, Goes}
+use Rattle.css_parse.proofs.Gathering.{SoFar}
 use Rattle.css_pragma.specs.Readings.{ReadsSome, ReadsFurther}
 use Rattle.css_pragma.proofs.arguments.listed.Given as goal
 

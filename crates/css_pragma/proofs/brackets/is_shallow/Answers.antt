@@ -9,10 +9,11 @@ pub loop-token-init : goal.loop-token-init
 loop-token-init c = none_yet (lexemes c.args.tokens.now)
 
 pub returns-then-count-gt-MOST_OPEN : goal.returns-then-count-gt-MOST_OPEN
-returns-then-count-gt-MOST_OPEN c =
-    (λ e. absurd (false≢true e),
-    λ shallow. absurd (not_shallow (lexemes c.args.tokens.now) c.loop-token.count c.open_behind-count.result (lexeme c.in-Some.token.now) (lexemes c.loop-token.rest.now) (lexemes c.in-Some.behind.now)
-    c.loop-token.invariant (ap lexemes c.in-Some.ensures.cases.0) c.open_behind-count.ensures c.if-count-gt-MOST_OPEN.true shallow))
+returns-then-count-gt-MOST_OPEN c = (
+  λ e. absurd (false≢true e),
+  λ shallow. absurd (not_shallow (lexemes c.args.tokens.now) c.loop-token.count c.open_behind-count.result (lexeme c.in-Some.token.now) (lexemes c.loop-token.rest.now) (lexemes c.in-Some.behind.now)
+      c.loop-token.invariant (ap lexemes c.in-Some.ensures.cases.0) c.open_behind-count.ensures c.if-count-gt-MOST_OPEN.true shallow),
+)
 
 pub loop-token-preserved : goal.loop-token-preserved
 loop-token-preserved c =

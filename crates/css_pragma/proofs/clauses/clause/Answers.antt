@@ -1,5 +1,4 @@
-use Rattle.std.proofs.Common.{List}
-use Rattle.css_base.specs.Tokens.{Lexeme, lexemes}
+use Rattle.css_base.specs.Tokens.{lexemes}
 use Rattle.css_pragma.proofs.Exits.{passed}
 use Rattle.css_pragma.proofs.Parts.{no_clause_word, no_clause_arguments, no_open}
 use Rattle.css_pragma.proofs.clauses.clause.Goals as goal

@@ -1,4 +1,4 @@
-use Rattle.std.proofs.Common.{◌≤◌, length, map}
+use Rattle.std.proofs.Common.{length, map}
 use Rattle.css_base.specs.Tokens.{lexemes}
 use Rattle.css_tree.specs.Shapes.{clause}
 use Rattle.css_parse.proofs.Gathering.{SoFar}

@@ -1,4 +1,4 @@
-use Rattle.std.proofs.Common.{◌≡◌, List, subst, sym, None, IfNone}
+use Rattle.std.proofs.Common.{List}
 use Rattle.css_base.specs.declared.direction.Direction.{Direction}
 use Rattle.css_base.specs.declared.direction.Direction.TheVariants as directions
 use Rattle.css_base.specs.Tokens.{Word, Lexeme, lexemes}

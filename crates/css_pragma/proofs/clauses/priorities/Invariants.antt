@@ -1,4 +1,4 @@
-use Rattle.std.proofs.Common.{◌≡◌, map, take}
+use Rattle.std.proofs.Common.{◌≡◌, take}
 use Rattle.std.specs.List.{count_by}
 use Rattle.css_tree.specs.Shapes.{clause}
 use Rattle.css_pragma.specs.Directives.{is_priority}

@@ -1,7 +1,7 @@
-use Rattle.std.proofs.Common.{◌≡◌, ℕ, ◌-◌, ◌≤◌, List, length, take, drop, sym, ap, ◌∙◌, subst, arith}
+use Rattle.std.proofs.Common.{◌≡◌, ℕ, ◌-◌, List, length, take, drop, sym, ap, ◌∙◌, subst, arith}
 use Rattle.std.proofs.lemmas.List.{take_all, drop-map, length-drop}
 use Rattle.css_base.specs.declared.token.Token.{Token}
-use Rattle.css_base.specs.Tokens.{Lexeme, lexeme, lexemes}
+use Rattle.css_base.specs.Tokens.{lexeme, lexemes}
 use Rattle.css_tree.specs.Shapes.{expression}
 use Rattle.css_pexpr.specs.Longest.{IsLongest}
 use Rattle.css_pragma.proofs.expression.expression.Goals as goal

@@ -1,5 +1,5 @@
-use Rattle.std.proofs.Common.{◌≡◌, ℕ, ◌<◌, List, length, take, [], sym, ap, ◌∙◌, subst, arith}
-use Rattle.css_base.specs.Tokens.{Lexeme, lexemes}
+use Rattle.std.proofs.Common.{take, [], sym, subst}
+use Rattle.css_base.specs.Tokens.{lexemes}
 use Rattle.css_tree.specs.declared.scope.Scope.TheVariants as scopes
 use Rattle.css_tree.specs.Syntax as tree
 use Rattle.css_tree.specs.Shapes.{expression}

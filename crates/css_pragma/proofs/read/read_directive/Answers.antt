@@ -1,9 +1,7 @@
-use Rattle.std.proofs.Common.{◌≡◌, Err, IfOk, IfErr, sym, ap, ◌∙◌, subst}
+use Rattle.std.proofs.Common.{Err, sym, ap, subst}
 use Rattle.std.proofs.lemmas.Result.{IfOk-weaker, IfErr-weaker}
 use Rattle.css_base.specs.Tokens.{lexemes}
 use Rattle.css_tree.specs.Shapes.{directive}
-use Rattle.css_tree.specs.Brackets.{IsShallow}
-use Rattle.css_pragma.specs.Effects.{directive_has_effect}
 use Rattle.css_pragma.specs.Readings.{ReadsDirective}
 use Rattle.css_pragma.specs.Refusals.{IsAccepted, IfRefused}
 use Rattle.css_pragma.proofs.Rules.{spelled, accepted, not_spelled, bad_directive, side_effect}

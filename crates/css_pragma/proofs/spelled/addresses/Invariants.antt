@@ -1,7 +1,7 @@
 use Rattle.std.proofs.Common.{◌≤◌, length, map}
 use Rattle.css_base.specs.Tokens.{lexemes}
 use Rattle.css_tree.specs.Shapes.{expression}
-use Rattle.css_parse.proofs.Gathering.{SoFar, Goes}
+use Rattle.css_parse.proofs.Gathering.{SoFar}
 use Rattle.css_pragma.specs.Readings.{ReadsAddresses, ReadsFurtherAddresses}
 use Rattle.css_pragma.proofs.spelled.addresses.Given as goal
 

@@ -1,4 +1,4 @@
-use Rattle.std.proofs.Common.{◌≡◌, ◌≤◌, map, sym, ap, ◌∙◌, subst, arith}
+use Rattle.std.proofs.Common.{map, sym, ap, ◌∙◌, arith}
 use Rattle.std.specs.List.{count_by}
 use Rattle.css_base.specs.Tokens.{lexemes}
 use Rattle.css_tree.specs.Shapes.{clause}
