@@ -272,7 +272,9 @@ choice t c a b = record {
 }
 
 abbrev pub conditional : (line : ℕ) → Operand → Operand → Operand → Judged Operand
-conditional line c a b = after (expected TypeMismatch line (chosen_type a.t b.t a b)) (λ t. Ok (choice t c a b))
+conditional line c a b =
+    provided (is_scalar c.t) TypeMismatch line
+    (after (expected TypeMismatch line (chosen_type a.t b.t a b)) (λ t. Ok (choice t c a b)))
 
 -- ---- assignments
 

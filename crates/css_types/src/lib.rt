@@ -1,0 +1,6 @@
+//! The static rules, and the core program that a tree is. The definitions are in `specs/`.
+#![tactic(auto)]
+
+mod samples;
+
+pub use samples::{accepted, refused};
