@@ -12,3 +12,4 @@ pub mod Tasks
 pub mod Functions
 pub mod Programs
 pub mod Samples
+pub mod WholeSamples

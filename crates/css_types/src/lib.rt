@@ -3,4 +3,4 @@
 
 mod samples;
 
-pub use samples::{accepted, refused};
+pub use samples::{accepted, refused, refused_by_rule, whole};
