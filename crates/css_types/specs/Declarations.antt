@@ -1,7 +1,6 @@
 -- THE elaboration of declarations: of globals, and of objects in blocks.
-use Rattle.std.specs.Prelude.{ℕ, ◌+◌, ◌-◌, ◌/◌, ℤ, pos, min, Bool, true, false, not, nat_le, List, [], ◌∷◌, ◌++◌, Option, Some, None, Ok}
+use Rattle.std.specs.Prelude.{ℕ, ◌+◌, ℤ, pos, min, Bool, nat_le, List, [], ◌∷◌, ◌++◌, Option, Some, None, Ok}
 use Rattle.css_base.specs.declared.static_fault.StaticName.TheVariants.{TypeMismatch, TooBig}
-use Rattle.css_num.specs.Types.{bits_of}
 use Rattle.css_num.specs.Conversion.{converted, representation}
 use Rattle.css_semantics.specs.Memory.{big_endian_bytes, rounded_up}
 use Rattle.css_tree.specs.Syntax as syntax

@@ -1,11 +1,10 @@
 -- The library's functions: formats of `printf`, and calls.
-use Rattle.std.specs.Prelude.{ℕ, pos, Bool, true, false, ◌==◌, ◌&&◌, List, [], ◌∷◌, codes, Option, Some, None, Ok, if◌then◌else◌}
-use Rattle.css_base.specs.declared.int_type.IntType.{IntType}
+use Rattle.std.specs.Prelude.{ℕ, Bool, ◌==◌, ◌&&◌, List, [], ◌∷◌, Option, Some, None, Ok, if◌then◌else◌}
 use Rattle.css_base.specs.declared.int_type.IntType.TheVariants.{Int, UInt}
 use Rattle.css_base.specs.declared.static_fault.StaticName.TheVariants.{TypeMismatch, BadFormat}
 use Rattle.css_num.specs.Types.{bits_of}
 use Rattle.css_num.specs.Usual.{promoted}
-use Rattle.css_core.specs.Core.{Conversion, Character, Signed, Unsigned, Hexadecimal, Wide, Piece, Literal, Shown, Expression, Number, Convert, Sequence, Input, Put, Print, Allocate, Expressions, Empty, More}
+use Rattle.css_core.specs.Core.{Conversion, Character, Signed, Unsigned, Hexadecimal, Wide, Piece, Literal, Shown, Expression, Convert, Input, Put, Print, Allocate, Expressions, Empty, More}
 use Rattle.css_core.specs.Elaboration as core
 use Rattle.css_core.specs.Typed.{bits_shown}
 use Rattle.css_types.specs.Types.{CType, Void, Integer, Pointer, core_type, is_integer}

@@ -1,11 +1,11 @@
 -- THE elaboration of functions.
-use Rattle.std.specs.Prelude.{ℕ, ◌+◌, ◌*◌, Bool, true, false, not, ◌&&◌, ◌||◌, nat_le, List, [], ◌∷◌, ◌++◌, length, map, is_some, position, bytes_eq, Option, Some, None, Ok, if◌then◌else◌}
+use Rattle.std.specs.Prelude.{ℕ, ◌+◌, ◌*◌, Bool, false, not, ◌&&◌, nat_le, List, [], ◌∷◌, ◌++◌, length, map, is_some, position, bytes_eq, Option, Some, None, Ok, if◌then◌else◌}
 use Rattle.css_base.specs.declared.static_fault.StaticName.TheVariants.{Redeclared, TypeMismatch, TooBig}
 use Rattle.css_tree.specs.Syntax as syntax
 use Rattle.css_core.specs.Core as core
 use Rattle.css_types.specs.Types.{CType, core_type, is_same, are_same, starred, named_by}
-use Rattle.css_types.specs.Judged.{Judged, broken, after, provided, expected}
-use Rattle.css_types.specs.Scopes.{Scope, Binding, Meaning, Object, Parameter, Function, found, library_of}
+use Rattle.css_types.specs.Judged.{Judged, after, provided, expected}
+use Rattle.css_types.specs.Scopes.{Scope, Binding, Meaning, Function, found, library_of}
 use Rattle.css_types.specs.Declarations.{biggest_frame}
 use Rattle.css_types.specs.Statements.{entries_of}
 use Rattle.css_types.specs.Tasks.{Parameters, Declared, with_parameter, parameters_of, listed, Clauses, task_clauses, parts_of}
@@ -68,15 +68,18 @@ module _ (read : syntax.Mark → syntax.Directive) (defined : List (List ℕ)) w
   body_of f (Some body) result parameters before =
       after (entries_of read (record { scope = parameters.scope; depth = 1; in_loop = false; result = result }) (8 * length parameters.all) body.entries) (λ all.
       provided (nat_le all.frame biggest_frame) TooBig f.line (Ok (record before {
-        all = before.all ++ record { name = f.name; what = record {
-          line = f.line;
-          end = f.end;
-          frame = all.frame;
-          parameters = map (λ p. core_type p.t) parameters.all;
-          result = core_type result;
-          task = None;
-          body = all.body;
-        } } ∷ [];
+        all = before.all ++ record {
+          name = f.name;
+          what = record {
+            line = f.line;
+            end = f.end;
+            frame = all.frame;
+            parameters = map (λ p. core_type p.t) parameters.all;
+            result = core_type result;
+            task = None;
+            body = all.body;
+          };
+        } ∷ [];
       })))
 
   -- A prototype or a definition: its directive, what it gives, its parameters, its name, and then its body, in which it is known.

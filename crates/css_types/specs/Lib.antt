@@ -11,5 +11,6 @@ pub mod Statements
 pub mod Tasks
 pub mod Functions
 pub mod Programs
+pub mod Shapes
 pub mod Samples
 pub mod WholeSamples

@@ -1,8 +1,8 @@
 -- Declared types, places of objects, and what an object begins with.
-use Rattle.std.specs.Prelude.{ℕ, zero, suc, ◌+◌, ◌-◌, ℤ, pos, Bool, true, false, not, nat_le, List, [], ◌∷◌, ◌++◌, length, Option, Some, None, Ok, if◌then◌else◌}
+use Rattle.std.specs.Prelude.{ℕ, zero, suc, ◌+◌, ◌-◌, pos, Bool, true, false, not, nat_le, List, [], ◌∷◌, ◌++◌, length, Option, Some, None, Ok, if◌then◌else◌}
 use Rattle.css_base.specs.declared.static_fault.StaticName.TheVariants.{Redeclared, TypeMismatch, TooBig}
 use Rattle.css_tree.specs.Syntax as syntax
-use Rattle.css_types.specs.Types.{CType, Array, size_of, array_of, arrays_of, biggest, is_void, is_integer, is_array, is_character, starred}
+use Rattle.css_types.specs.Types.{CType, Array, size_of, array_of, arrays_of, biggest, is_void, is_integer, is_character, starred}
 use Rattle.css_types.specs.Judged.{Judged, broken, after, provided, expected}
 use Rattle.css_types.specs.Constants.{Constant, Known}
 use Rattle.css_types.specs.Scopes.{Scope, is_taken}

@@ -14,12 +14,12 @@ use Rattle.css_tree.specs.declared.operators.BinaryOperator.{BinaryOperator}
 use Rattle.css_tree.specs.declared.operators.BinaryOperator.TheVariants as binaries
 use Rattle.css_tree.specs.declared.operators.AssignOperator.{AssignOperator}
 use Rattle.css_tree.specs.declared.operators.AssignOperator.TheVariants as assignments
-use Rattle.css_core.specs.Core.{Expression, Number, Given, Value, Assign, Update, Convert, Binary, And, Or, Choice, Sequence, Call, Expressions, Empty, More, Gives, New}
+use Rattle.css_core.specs.Core.{Expression, Number, Given, Value, Assign, Convert, Binary, And, Or, Choice, Sequence, Call, Expressions, Empty, More, Gives, New}
 use Rattle.css_core.specs.Elaboration as core
 use Rattle.css_types.specs.Types.{CType, Void, Integer, Pointer, Array, size_of, core_type, is_void, is_integer, is_scalar, is_array, is_same}
 use Rattle.css_types.specs.Judged.{Judged, broken, after, provided, expected}
-use Rattle.css_types.specs.Constants.{Constant, Varies, Faults, Known, constant_in, constant_unary, constant_binary, decided, chosen, is_zero}
-use Rattle.css_types.specs.Scopes.{Where, address_at, Meaning, Object, Parameter, Function}
+use Rattle.css_types.specs.Constants.{Constant, Varies, Known, constant_in, constant_unary, constant_binary, decided, chosen, is_zero}
+use Rattle.css_types.specs.Scopes.{address_at, Meaning, Object, Parameter, Function}
 
 -- what a core expression gives: the value itself, or the address of a place where it lies. What a task is given for a parameter is a value
 -- too, and counts as a place for the rules.

@@ -1,8 +1,7 @@
 -- What a name means: the bindings that can be seen, the newest first (C99 6.2.1).
-use Rattle.std.specs.Prelude.{ℕ, Bool, true, false, ◌==◌, ◌||◌, pos, List, [], ◌∷◌, codes, is_some, Option, Some, None, bytes_eq, if◌then◌else◌}
-use Rattle.css_base.specs.declared.int_type.IntType.TheVariants.{Int, UInt}
+use Rattle.std.specs.Prelude.{ℕ, Bool, false, ◌==◌, ◌||◌, pos, List, [], ◌∷◌, codes, is_some, Option, Some, None, bytes_eq, if◌then◌else◌}
 use Rattle.css_core.specs.Core.{Expression, Number, Local}
-use Rattle.css_types.specs.Types.{CType, Void, Integer, Pointer}
+use Rattle.css_types.specs.Types.{CType}
 
 -- where an object lies: so many bytes into its function's frame, or at an address
 pub data Where : Type 0 where

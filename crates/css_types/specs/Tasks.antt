@@ -1,14 +1,13 @@
 -- THE elaboration of parameters, and of the directive that makes a task of a function.
-use Rattle.std.specs.Prelude.{ℕ, ◌+◌, pos, Bool, true, false, not, nat_le, List, [], ◌∷◌, ◌++◌, bytes_eq, Option, Some, None, Result, Ok, Err, is_some, if◌then◌else◌}
+use Rattle.std.specs.Prelude.{ℕ, ◌+◌, pos, Bool, true, false, not, nat_le, List, [], ◌∷◌, ◌++◌, bytes_eq, Option, Some, None, Ok, Err, if◌then◌else◌}
 use Rattle.css_base.specs.declared.direction.Direction.{Direction}
 use Rattle.css_base.specs.declared.int_type.IntType.TheVariants.{Int}
 use Rattle.css_base.specs.declared.static_fault.StaticName.TheVariants.{Redeclared, TypeMismatch, TooBig}
 use Rattle.css_tree.specs.Syntax as syntax
 use Rattle.css_core.specs.Core as core
 use Rattle.css_types.specs.Types.{CType, Integer, Pointer, size_of, arrays_of, biggest, is_void, is_integer, is_pointer, starred, named_by}
-use Rattle.css_types.specs.Judged.{Judged, broken, after, provided, expected}
-use Rattle.css_types.specs.Scopes.{Scope, Binding, InFrame, Object, Parameter, is_taken}
-use Rattle.css_types.specs.Operands.{Operand}
+use Rattle.css_types.specs.Judged.{Judged, after, provided, expected}
+use Rattle.css_types.specs.Scopes.{Scope, InFrame, Object, Parameter, is_taken}
 use Rattle.css_types.specs.Expressions.{operand_of, as_value}
 use Rattle.css_types.specs.Objects.{lengths, all_there}
 

@@ -1,5 +1,5 @@
 -- The types of C, and those that words and stars name.
-use Rattle.std.specs.Prelude.{ℕ, ◌+◌, ◌*◌, ◌/◌, Bool, true, false, ◌==◌, ◌&&◌, nat_le, List, [], ◌∷◌, Option, Some, None, option_map, if◌then◌else◌}
+use Rattle.std.specs.Prelude.{ℕ, ◌+◌, ◌*◌, ◌/◌, min, Bool, true, false, ◌==◌, ◌&&◌, nat_le, List, [], ◌∷◌, fold, Option, Some, None, option_map, if◌then◌else◌}
 use Rattle.css_base.specs.declared.int_type.IntType.{IntType}
 use Rattle.css_base.specs.declared.int_type.IntType.TheVariants.{UChar, SChar, Short, UShort, Int, UInt, Long, ULong, LongLong, ULongLong}
 use Rattle.css_num.specs.Types.{bits_of}
@@ -107,20 +107,23 @@ pub record Counts : Type 0 where
 abbrev pub no_words : Counts
 no_words = record { voids = 0; chars = 0; shorts = 0; ints = 0; longs = 0; signeds = 0; unsigneds = 0 }
 
+-- one more, of which three are as many as more
+abbrev pub one_more : ℕ → ℕ
+one_more n = min (n + 1) 3
+
 -- the other words have no effect
 abbrev pub with_word : Counts → Specifier → Counts
-with_word c words.Void = record c { voids = c.voids + 1 }
-with_word c words.Char = record c { chars = c.chars + 1 }
-with_word c words.Short = record c { shorts = c.shorts + 1 }
-with_word c words.Int = record c { ints = c.ints + 1 }
-with_word c words.Long = record c { longs = c.longs + 1 }
-with_word c words.Signed = record c { signeds = c.signeds + 1 }
-with_word c words.Unsigned = record c { unsigneds = c.unsigneds + 1 }
+with_word c words.Void = record c { voids = one_more c.voids }
+with_word c words.Char = record c { chars = one_more c.chars }
+with_word c words.Short = record c { shorts = one_more c.shorts }
+with_word c words.Int = record c { ints = one_more c.ints }
+with_word c words.Long = record c { longs = one_more c.longs }
+with_word c words.Signed = record c { signeds = one_more c.signeds }
+with_word c words.Unsigned = record c { unsigneds = one_more c.unsigneds }
 with_word c other = c
 
 abbrev pub counted : List Specifier → Counts
-counted [] = no_words
-counted (w ∷ ws) = with_word (counted ws) w
+counted ws = fold with_word no_words ws
 
 -- `void` alone
 abbrev pub is_void_alone : Counts → Bool
@@ -141,10 +144,10 @@ abbrev pub integer_of : Counts → Option IntType
 integer_of c =
     if is_char c then Some (if c.signeds == 0 then UChar else SChar)
     else (if is_wide c then
-      (if (c.shorts == 1) && (c.longs == 0) then Some (signed_as c.unsigneds Short UShort)
-      else (if (c.shorts == 0) && (c.longs == 1) then Some (signed_as c.unsigneds Long ULong)
-      else (if (c.shorts == 0) && (c.longs == 2) then Some (signed_as c.unsigneds LongLong ULongLong)
-      else (if (c.shorts + c.longs == 0) && nat_le 1 (c.ints + c.signeds + c.unsigneds) then Some (signed_as c.unsigneds Int UInt) else None))))
+    (if (c.shorts == 1) && (c.longs == 0) then Some (signed_as c.unsigneds Short UShort)
+    else (if (c.shorts == 0) && (c.longs == 1) then Some (signed_as c.unsigneds Long ULong)
+    else (if (c.shorts == 0) && (c.longs == 2) then Some (signed_as c.unsigneds LongLong ULongLong)
+    else (if (c.shorts + c.longs == 0) && nat_le 1 (c.ints + c.signeds + c.unsigneds) then Some (signed_as c.unsigneds Int UInt) else None))))
     else None)
 
 abbrev pub of_counts : Counts → Option CType

@@ -1,5 +1,5 @@
 -- Worked trees for what the whole language has: globals, strings, formats, prototypes, tasks; and a table of refusals. Memory is 16 MiB.
-use Rattle.std.specs.Prelude.{ℕ, pos, Bool, false, List, [], ◌∷◌, ◌++◌, map, codes, Option, Some, None, Ok}
+use Rattle.std.specs.Prelude.{ℕ, pos, false, List, [], ◌∷◌, ◌++◌, codes, Option, Some, None}
 use Rattle.css_base.specs.declared.direction.Direction.TheVariants as directions
 use Rattle.css_base.specs.declared.int_type.IntType.TheVariants.{UChar, Int, UInt}
 use Rattle.css_base.specs.declared.static_fault.StaticName.{StaticName}
@@ -7,14 +7,11 @@ use Rattle.css_base.specs.declared.static_fault.StaticName.TheVariants.{NoMain, 
 use Rattle.css_base.specs.Tokens as tokens
 use Rattle.css_tree.specs.declared.words.Specifier.{Specifier}
 use Rattle.css_tree.specs.declared.words.Specifier.TheVariants as words
-use Rattle.css_tree.specs.declared.operators.UnaryOperator.TheVariants as unaries
-use Rattle.css_tree.specs.declared.operators.BinaryOperator.TheVariants as binaries
 use Rattle.css_tree.specs.Syntax as syntax
-use Rattle.css_num.specs.declared.operators.BinOp.TheVariants as binary
 use Rattle.css_core.specs.Core as core
-use Rattle.css_types.specs.Judged.{Judged, broken}
+use Rattle.css_types.specs.Judged.{Judged}
 use Rattle.css_types.specs.Programs.{program_of}
-use Rattle.css_types.specs.Samples.{number, name, set_to, at, evaluate, give, in_row, main_of, moved, plainly, program_with}
+use Rattle.css_types.specs.Samples.{number, name, at, evaluate, give, in_row, main_of, moved, program_with}
 
 -- ---- words for trees
 
@@ -87,9 +84,9 @@ datum address bytes = record { address = address; bytes = bytes }
 abbrev pub core_of_globals : core.Program
 core_of_globals = record (program_with 0 (
     core.Then (core.Return 2 (core.Convert Int (core.Value Int (moved (moved (core.Number (pos 4104)) 1 8) 0 4)))) core.Nothing)) {
-  globals_end = 4124;
-  datums = datum 4096 (1 ∷ []) ∷ datum 4104 (0 ∷ 0 ∷ 0 ∷ 1 ∷ []) ∷ datum 4112 (0 ∷ 0 ∷ 0 ∷ 2 ∷ []) ∷ datum 4116 (0 ∷ 0 ∷ 0 ∷ 3 ∷ []) ∷ datum 4120 (0 ∷ 0 ∷ 0 ∷ 0 ∷ []) ∷ [];
-}
+      globals_end = 4124;
+      datums = datum 4096 (1 ∷ []) ∷ datum 4104 (0 ∷ 0 ∷ 0 ∷ 1 ∷ []) ∷ datum 4112 (0 ∷ 0 ∷ 0 ∷ 2 ∷ []) ∷ datum 4116 (0 ∷ 0 ∷ 0 ∷ 3 ∷ []) ∷ datum 4120 (0 ∷ 0 ∷ 0 ∷ 0 ∷ []) ∷ [];
+    }
 
 -- ---- strings and formats
 
@@ -106,7 +103,7 @@ abbrev pub core_of_strings : core.Program
 core_of_strings = program_with 8 (
     core.Then (byte_stored 0 97) (core.Then (byte_stored 1 98) (core.Then (byte_stored 2 0) (core.Then (byte_stored 3 0)
     (core.Then (core.Return 3 (core.Convert Int (core.Print (core.Shown core.Character ∷ core.Literal 37 ∷ [])
-        (core.More (core.Convert Int (core.Value UChar (moved (core.Local 0) 0 1))) core.Empty)))) core.Nothing)))))
+    (core.More (core.Convert Int (core.Value UChar (moved (core.Local 0) 0 1))) core.Empty)))) core.Nothing)))))
 
 -- ---- prototypes and tasks
 
@@ -125,7 +122,7 @@ abbrev pub with_task : syntax.Tree
 with_task =
     function 2 (Some (record { line = 1; words = tokens.End })) words.Void (codes "t") parameters None
     ∷ (main_of (local 3 words.Int [] (codes "a") (Some (number 2) ∷ Some (number 3) ∷ []) None
-        ∷ evaluate 3 (call (codes "t") (name (codes "a") ∷ number 2 ∷ [])) ∷ give 3 (number 0) ∷ [])
+    ∷ evaluate 3 (call (codes "t") (name (codes "a") ∷ number 2 ∷ [])) ∷ give 3 (number 0) ∷ [])
     ++ function 4 None words.Void (codes "t") parameters (Some []) ∷ [])
 
 abbrev pub core_of_task : core.Program
@@ -133,12 +130,27 @@ core_of_task = record {
   globals_end = 4096;
   datums = [];
   functions =
-      record { line = 1; end = 9; frame = 24; parameters = []; result = Int; task = None; body =
-          core.Then (core.Eval 3 (core.Call 1 (core.More (core.Convert UInt (core.Local 0)) (core.More (core.Convert Int (core.Number (pos 2))) core.Empty))))
-          (core.Then (core.Return 3 (core.Convert Int (core.Number (pos 0)))) core.Nothing) }
-      ∷ record { line = 4; end = 4; frame = 16; parameters = UInt ∷ Int ∷ []; result = Int; task =
-          Some (record { high = false; parts = core.Window directions.In 4 false (core.More (core.Given 1) core.Empty) ∷ core.Scalar ∷ [] });
-          body = core.Nothing }
+      record {
+        line = 1;
+        end = 9;
+        frame = 24;
+        parameters = [];
+        result = Int;
+        task = None;
+        body =
+            core.Then (core.Eval 3 (core.Call 1 (core.More (core.Convert UInt (core.Local 0)) (core.More (core.Convert Int (core.Number (pos 2))) core.Empty))))
+            (core.Then (core.Return 3 (core.Convert Int (core.Number (pos 0)))) core.Nothing);
+      }
+      ∷ record {
+        line = 4;
+        end = 4;
+        frame = 16;
+        parameters = UInt ∷ Int ∷ [];
+        result = Int;
+        task =
+            Some (record { high = false; parts = core.Window directions.In 4 false (core.More (core.Given 1) core.Empty) ∷ core.Scalar ∷ [] });
+        body = core.Nothing;
+      }
       ∷ [];
   main = 0;
 }

@@ -2,5 +2,7 @@
 #![tactic(auto)]
 
 mod samples;
+mod words;
 
 pub use samples::{accepted, refused, refused_by_rule, whole};
+pub use words::{Base, named_by};
