@@ -1,0 +1,2 @@
+pub mod RightOperands
+pub mod Pieces

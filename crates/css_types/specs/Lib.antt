@@ -1,0 +1,16 @@
+pub mod Judged
+pub mod Types
+pub mod Constants
+pub mod Scopes
+pub mod Operands
+pub mod Formats
+pub mod Expressions
+pub mod Objects
+pub mod Declarations
+pub mod Statements
+pub mod Tasks
+pub mod Functions
+pub mod Programs
+pub mod Shapes
+pub mod Samples
+pub mod WholeSamples
