@@ -1,0 +1,5 @@
+pub mod Bools
+pub mod Histories
+pub mod Standings
+pub mod Values
+pub mod Facts

@@ -11,7 +11,7 @@ use Rattle.css_history.specs.declared.entry.Entry.{Entry}
 use Rattle.css_history.specs.declared.entry.Entry.TheVariants as entries
 use Rattle.css_history.specs.Terms.{Terms}
 use Rattle.css_history.specs.Histories.{maker, submits, Waiting, Ended, standing, held, is_closed, has_starved}
-use Rattle.css_history.specs.Rules.{IsSubmit, MayTake}
+use Rattle.css_history.specs.Rules.{IsSubmit}
 use Rattle.css_history.specs.Bodies.{IsFound}
 use Rattle.css_history.specs.Legal.{MayFollow, Legal}
 use Rattle.css_history.specs.Seats.{AreInTurn, MayTell, IsFirst}
@@ -45,7 +45,7 @@ module _ (b : Terms) where
     pub is_found : (seat : ℕ) (given : List (List ℕ)) (version : VersionName) (bytes : List ℕ) → Remains maker (MayFollow b) seat (λ log. IsFound log given version bytes)
     pub in_turn : (seat : ℕ) (before numbers : List ℕ) → Remains maker (MayFollow b) seat (λ log. AreInTurn log before numbers)
     -- A worker's own entries. Once it has taken tasks, it may run them in this order.
-    pub taken : (log : List Entry) (w : ℕ) (numbers : List ℕ) → MayTake log [] numbers → AreInTurn (log ++ entries.Take w numbers ∷ []) [] numbers
+    pub taken : (log : List Entry) (w : ℕ) (numbers : List ℕ) → Legal b log → MayFollow b log (entries.Take w numbers) → AreInTurn (log ++ entries.Take w numbers ∷ []) [] numbers
     -- Once it has finished the first of those that it is to run, it may run the rest.
     pub rest : (log : List Entry) (w n : ℕ) (outs : List (List ℕ)) (numbers : List ℕ) → Legal b log → MayFollow b log (entries.Finish w n outs)
         → AreInTurn log [] (n ∷ numbers) → AreInTurn (log ++ entries.Finish w n outs ∷ []) [] numbers
