@@ -62,7 +62,7 @@ module _ (b : Terms) where
   all_found_last given (version ∷ versions) (bytes ∷ values) log e was may are =
       (found_lasts given version bytes log e was may are.0, all_found_last given versions values log e was may are.1)
 
-  finished_lasts : (n : ℕ) → Lasts maker (MayFollow b) (IsFinished n)
+  pub finished_lasts : (n : ℕ) → Lasts maker (MayFollow b) (IsFinished n)
   finished_lasts n log e was may (outs, is) = (outs, ended_lasts b n (Outs outs) log e was may is)
 
   ready_lasts : (before : List ℕ) (version : VersionName) → Lasts maker (MayFollow b) (λ log. IsReady log before version)

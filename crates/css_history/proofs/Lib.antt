@@ -3,3 +3,4 @@ pub mod Histories
 pub mod Standings
 pub mod Values
 pub mod Facts
+pub mod Numbers

@@ -1,0 +1,165 @@
+-- The cells of a board, once its history has one entry more.
+use Rattle.std.proofs.Common.{◌≡◌, ◌≢◌, ◌⊎◌, ℕ, ◌+◌, ◌<◌, ◌≤◌, Bool, true, false, true≢false, List, [], ◌∷◌, ◌++◌, length, set, get_or, Option, Some, None, slice_get, refl, ap, sym, ◌∙◌, subst, inl, inr, arith, length-append}
+use Rattle.std.proofs.Math.ListN.{length-set}
+use Rattle.std.proofs.lemmas.Bool.{cases_Bool, eq-eqb}
+use Rattle.std.proofs.lemmas.Option.{slice_get_within, slice_get-get_or, get_or_from_slice_get}
+use Rattle.css_base.specs.declared.ending.Stop.{Stop}
+use Rattle.css_record.specs.declared.task_record.TaskRecord.{TaskRecord}
+use Rattle.css_task.specs.Alone.{End, Outs, Halted}
+use Rattle.css_yard.specs.Values.{Submit}
+use Rattle.css_yard.proofs.Lists.{last_or_before, before_more}
+use Rattle.css_graph.specs.Tasks.{is_among}
+use Rattle.css_history.specs.declared.entry.Entry.{Entry}
+use Rattle.css_history.specs.declared.entry.Entry.TheVariants as entries
+use Rattle.css_history.specs.Terms.{Terms}
+use Rattle.css_history.specs.Histories.{submitted, submits, Standing, Waiting, Held, Ended, named, comes, standing, IsFinished}
+use Rattle.css_history.specs.Rules.{IsNext}
+use Rattle.css_history.specs.Legal.{MayFollow, Legal}
+use Rattle.css_history.proofs.Bools.{among_one, not_among_one}
+use Rattle.css_history.proofs.Histories.{submits_more, submits_same, not_named, is_named}
+use Rattle.css_history.proofs.Standings.{ended_lasts}
+use Rattle.css_history.proofs.Numbers.{next_waits}
+use Rattle.css_board.specs.declared.cell.Cell.{Cell}
+use Rattle.css_board.specs.Cells.{told_by, entry_at, end_at, IsFinish, IsFinishedCell, no_cell, with_end, IsEnd, IsCell, AreCells}
+use Rattle.css_board.proofs.Lists.{get_set, get_seam}
+
+-- the entry brings this task to no end
+abbrev pub EndsNot : List Entry → Entry → ℕ → Type 0
+EndsNot log e n = (end : End) → standing n (log ++ e ∷ []) ≡ Ended end → standing n log ≡ Ended end
+
+comes_to_none : (e : Entry) (end : End) → told_by e ≡ None → comes e ≢ Ended end
+comes_to_none (entries.Submit rec given) end none is = cc
+comes_to_none (entries.Take w numbers) end none is = cc
+comes_to_none (entries.Finish w n outs) end none is = cc
+comes_to_none (entries.Stop w n stop line) end none is = cc
+comes_to_none (entries.Back w numbers) end none is = cc
+comes_to_none (entries.Starved w) end none is = cc
+comes_to_none entries.Close end none is = cc
+
+pub ends_none : (log : List Entry) (e : Entry) (n : ℕ) → told_by e ≡ None → EndsNot log e n
+ends_none log e n none end is = elim (cases_Bool (is_among (named e) n)) [
+  | inl names ↦ absurd (comes_to_none e end none (sym (is_named log e n names) ∙ is))
+  | inr apart ↦ sym (not_named log e n apart) ∙ is
+]
+
+pub ends_other : (log : List Entry) (e : Entry) (m n : ℕ) → named e ≡ m ∷ [] → m ≢ n → EndsNot log e n
+ends_other log e m n names apart end is = sym (not_named log e n (subst (λ l. is_among l n ≡ false) (sym names) (not_among_one m n apart))) ∙ is
+
+module _ (b : Terms) (log : List Entry) (e : Entry) (legal : Legal b log) (may : MayFollow b log e) where
+  abbrev longer : List Entry
+  longer = log ++ e ∷ []
+
+  end_kept : (n : ℕ) (o : Option ℕ) → EndsNot log e n → IsEnd log n o → IsEnd longer n o
+  end_kept n None not_ended is = λ end ended. is end (not_ended end ended)
+  end_kept n (Some place) not_ended (x, end, at, told, ended) = (x, end, before_more log (e ∷ []) place x at, told, ended_lasts b n end log e legal may ended)
+
+  more_submits : (k : ℕ) (s : Submit) → slice_get (submits log) k ≡ Some s → slice_get (submits longer) k ≡ Some s
+  more_submits k s at = subst (λ l. slice_get l k ≡ Some s) (sym (submits_more log e)) (before_more (submits log) (submitted e) k s at)
+
+  pub cell_kept : (k n : ℕ) (c : Cell) → EndsNot log e n → IsCell log k n c → IsCell longer k n c
+  cell_kept k n c not_ended is = record {
+    task = is.task;
+    task_is = more_submits k is.task is.task_is;
+    submit_is = before_more log (e ∷ []) c.submit (entries.Submit is.task.rec is.task.given) is.submit_is;
+    end_is = end_kept n c.end not_ended is.end_is;
+  }
+
+  -- nothing is submitted, and nothing ends
+  pub cells_same : (cells : List Cell) → submitted e ≡ [] → told_by e ≡ None → AreCells b.first log cells → AreCells b.first longer cells
+  cells_same cells none untold are = record {
+    all = are.all ∙ ap length (sym (submits_same log e none));
+    each = λ k c at. cell_kept k (b.first + k) c (ends_none log e (b.first + k) untold) (are.each k c at);
+  }
+
+  -- the k-th task comes to its end
+  pub cells_ended : (cells : List Cell) (k m : ℕ) (end : End) → submitted e ≡ [] → named e ≡ m ∷ [] → told_by e ≡ Some end → comes e ≡ Ended end → m ≡ b.first + k → k < length cells
+      → AreCells b.first log cells → AreCells b.first longer (with_end cells k (length log))
+  cells_ended cells k m end none names told comes_is m_is below are =
+      let old : Cell = get_or cells k no_cell in
+      let new : Cell = record { submit = old.submit; end = Some (length log) } in
+      let was : IsCell log k (b.first + k) old = are.each k old (slice_get-get_or cells k no_cell below) in
+      let among : is_among (named e) (b.first + k) ≡ true = subst (λ l. is_among l (b.first + k) ≡ true) (sym names) (one_among m (b.first + k) m_is) in
+      let here : IsCell longer k (b.first + k) new = record {
+        task = was.task;
+        task_is = more_submits k was.task was.task_is;
+        submit_is = before_more log (e ∷ []) old.submit (entries.Submit was.task.rec was.task.given) was.submit_is;
+        end_is = (e, end, get_seam log [] e, told, is_named log e (b.first + k) among ∙ comes_is);
+      } in
+      record {
+        all = length-set cells k new ∙ (are.all ∙ ap length (sym (submits_same log e none)));
+        each = λ j c at. elim (get_set cells k j new c at) [
+          | inl h ↦ subst (λ (d : Cell). IsCell longer j (b.first + j) d) h.1 (subst (λ (i : ℕ). IsCell longer i (b.first + i) new) (sym h.0) here)
+          | inr h ↦ cell_kept j (b.first + j) c (ends_other log e m (b.first + j) names (λ same. h.0 (omega (arith, same, m_is)))) (are.each j c h.1)
+        ];
+      }
+    where
+      one_among : (n k : ℕ) → n ≡ k → is_among (n ∷ []) k ≡ true
+      one_among n k same = rw (eq-eqb n k same) refl
+
+module _ (b : Terms) (log : List Entry) (r : TaskRecord) (given : List (List ℕ)) (legal : Legal b log) (may : MayFollow b log (entries.Submit r given)) where
+  abbrev submit_entry : Entry
+  submit_entry = entries.Submit r given
+
+  pub cells_submit : (cells : List Cell) → AreCells b.first log cells → AreCells b.first (log ++ submit_entry ∷ []) (cells ++ record { submit = length log; end = None } ∷ [])
+  cells_submit cells are =
+      let it : Submit = record { rec = r; given = given } in
+      let new : Cell = record { submit = length log; end = None } in
+      let longer : List Entry = log ++ submit_entry ∷ [] in
+      let k : ℕ = length cells in
+      let waits : standing (b.first + k) log ≡ Waiting = subst (λ (n : ℕ). standing (b.first + n) log ≡ Waiting) (sym are.all) (next_waits b log legal) in
+      let here : IsCell longer k (b.first + k) new = record {
+        task = it;
+        task_is = subst (λ (n : ℕ). slice_get (submits longer) n ≡ Some it) (sym are.all) (subst (λ l. slice_get l (length (submits log)) ≡ Some it) (sym (submits_more log submit_entry)) (get_seam (submits log) [] it));
+        submit_is = get_seam log [] submit_entry;
+        end_is = λ end ended. (let was : standing (b.first + k) log ≡ Ended end = ends_none log submit_entry (b.first + k) refl end ended in absurd (cc));
+      } in
+      record {
+        all = omega (arith, length-append cells (new ∷ []), ap length (submits_more log submit_entry), length-append (submits log) (it ∷ []), are.all);
+        each = λ j c at. elim (last_or_before cells new j c at) [
+          | inl before ↦ cell_kept b log submit_entry legal may j (b.first + j) c (ends_none log submit_entry (b.first + j) refl) (are.each j c before)
+          | inr last ↦ subst (λ (d : Cell). IsCell longer j (b.first + j) d) last.1 (subst (λ (i : ℕ). IsCell longer i (b.first + i) new) (sym last.0) here)
+        ];
+      }
+
+-- ---- what a cell says of its task
+
+not_finish : (e : Entry) (outs : List (List ℕ)) → told_by e ≡ Some (Outs outs) → IsFinish (Some e)
+not_finish (entries.Submit rec given) outs told = absurd (cc)
+not_finish (entries.Take w numbers) outs told = absurd (cc)
+not_finish (entries.Finish w n others) outs told = tt
+not_finish (entries.Stop w n stop line) outs told = absurd (cc)
+not_finish (entries.Back w numbers) outs told = absurd (cc)
+not_finish (entries.Starved w) outs told = absurd (cc)
+not_finish entries.Close outs told = absurd (cc)
+
+is_finish : (e : Entry) (end : End) → IsFinish (Some e) → told_by e ≡ Some end → (outs : List (List ℕ)) × (end ≡ Outs outs)
+is_finish (entries.Submit rec given) end is told = absurd is
+is_finish (entries.Take w numbers) end is told = absurd is
+is_finish (entries.Finish w n others) end is told = (others, cc)
+is_finish (entries.Stop w n stop line) end is told = absurd is
+is_finish (entries.Back w numbers) end is told = absurd is
+is_finish (entries.Starved w) end is told = absurd is
+is_finish entries.Close end is told = absurd is
+
+finished_by : (log : List Entry) (n : ℕ) (c : Cell) (o : Option ℕ) → c.end ≡ o → IsEnd log n o → IsFinishedCell log c → IsFinished n log
+finished_by log n c None is end finished =
+    let none : end_at log c ≡ None = ap (λ (p : Option ℕ). entry_at log p) is in
+    absurd (subst IsFinish none finished)
+finished_by log n c (Some place) is (e, end, at, told, ended) finished =
+    let there : end_at log c ≡ Some e = ap (λ (p : Option ℕ). entry_at log p) is ∙ at in
+    let outs = is_finish e end (subst IsFinish there finished) told in
+    (outs.0, ended ∙ ap Ended outs.1)
+
+pub cell_finished : (log : List Entry) (k n : ℕ) (c : Cell) → IsCell log k n c → IsFinishedCell log c → IsFinished n log
+cell_finished log k n c is finished = finished_by log n c c.end refl is.end_is finished
+
+cell_by : (log : List Entry) (n : ℕ) (c : Cell) (o : Option ℕ) → c.end ≡ o → IsEnd log n o → IsFinished n log → IsFinishedCell log c
+cell_by log n c None is end (outs, finished) = absurd (end (Outs outs) finished)
+cell_by log n c (Some place) is (e, end, at, told, ended) (outs, finished) =
+    let there : end_at log c ≡ Some e = ap (λ (p : Option ℕ). entry_at log p) is ∙ at in
+    let both : Ended end ≡ Ended (Outs outs) = sym ended ∙ finished in
+    let same : end ≡ Outs outs = cc in
+    subst IsFinish (sym there) (not_finish e outs (told ∙ ap Some same))
+
+pub finished_cell : (log : List Entry) (k n : ℕ) (c : Cell) → IsCell log k n c → IsFinished n log → IsFinishedCell log c
+finished_cell log k n c is finished = cell_by log n c c.end refl is.end_is finished

@@ -1,0 +1,5 @@
+pub mod Graphs
+pub mod Jobs
+pub mod Cells
+pub mod Posts
+pub mod Boards
