@@ -1,8 +1,8 @@
 -- A board, once its history has one entry more.
-use Rattle.std.proofs.Common.{Vec, Global, ◌≡◌, ◌≢◌, ◌⊎◌, ℕ, ◌+◌, ◌<◌, ◌≤◌, ◌^◌, ◌||◌, ◌==◌, Bool, true, false, cond, not, List, [], ◌∷◌, ◌++◌, length, set, get_or, Some, None, slice_get, Contains, refl, ap, sym, ◌∙◌, subst, inl, inr, arith, length-append, replicate}
+use Rattle.std.proofs.Common.{Vec, Global, ◌≡◌, ◌≢◌, ◌⊎◌, ℕ, ◌+◌, ◌<◌, ◌≤◌, ◌^◌, ◌||◌, ◌==◌, Bool, true, false, true≢false, IsTrue, nat_eq, nat_lt, cond, not, List, [], ◌∷◌, ◌++◌, length, set, get_or, Some, None, slice_get, Contains, refl, ap, sym, ◌∙◌, subst, inl, inr, arith, length-append, replicate}
 use Rattle.std.specs.List.{list_any, list_all, sum_by}
 use Rattle.std.specs.Arc.{arc_value}
-use Rattle.std.proofs.lemmas.Bool.{cases_Bool, eq-eqb}
+use Rattle.std.proofs.lemmas.Bool.{cases_Bool, eqb-true, eq-eqb}
 use Rattle.std.proofs.lemmas.List.Sums.{sum_by_more_le}
 use Rattle.std.proofs.lemmas.Option.{slice_get_within, get_or_from_slice_get}
 use Rattle.css_base.specs.Limits.{IsInRange}
@@ -12,7 +12,7 @@ use Rattle.css_task.specs.Alone.{End, Outs, Halted}
 use Rattle.css_yard.specs.Values.{Submit}
 use Rattle.css_yard.specs.Yards.{MaySubmit}
 use Rattle.css_yard.proofs.Lists.{place_of, is_within, has_place}
-use Rattle.css_graph.specs.Tasks.{TaskGraph, is_among, where_come, with_task, is_number_out}
+use Rattle.css_graph.specs.Tasks.{TaskGraph, is_among, where_come, with_task, is_number_out, is_number_added}
 use Rattle.css_seen.proofs.Lasting.{legal_more}
 use Rattle.css_history.specs.declared.entry.Entry.{Entry}
 use Rattle.css_history.specs.declared.entry.Entry.TheVariants as entries
@@ -299,3 +299,31 @@ module _ (f : Fixed) (log : List Entry) (cells : List Cell) (posts : List Post) 
       let s = is_within (submits log) front below in
       let number = numbered b log is.legal front s.0 s.1 in
       is.front_is.unfinished below (subst (λ (n : ℕ). IsFinished n log) number (all s.0 (has_place (submits log) front s.0 s.1)))
+
+  pub fed_some : (w : ℕ) (p : Post) → slice_get posts w ≡ Some p → has_starved w log ≡ false → 1 ≤ coming_of p
+  fed_some w p at first = omega (arith, ap one_if_not ((post_at w p at).starved_is ∙ first))
+
+  pub done_is : (n : ℕ) → n ≡ length cells → (IsTrue (nat_eq front n) → AreAllFinished log) × (AreAllFinished log → IsTrue (nat_eq front n))
+  done_is n whole = elim (cases_Bool (nat_eq front n)) [
+    | inl same ↦ ((λ e. all_done (eqb-true front n same ∙ whole)), (λ all. same))
+    | inr apart ↦ ((λ e. absurd (true≢false (sym e ∙ apart))), (λ all. absurd (not_done all (λ same. true≢false (sym (eq-eqb front n (same ∙ sym whole)) ∙ apart)))))
+  ]
+
+  -- the same, where the front was looked for in what is equal to the longer history and its cells
+  pub board_finished : (w n k : ℕ) (outs : List (List ℕ)) (p q : Post) (g' : TaskGraph) (front' : ℕ) (h : List Entry) (cs : List Cell) → MayEnd log w n → IsOfBody b log n (Outs outs) → n ≡ f.first + k → slice_get posts w ≡ Some p → q.held.items ≡ without n p.held.items
+      → q.starved ≡ p.starved → g' ≡ where_come g (state_of (comes (entries.Finish w n outs))) (n ∷ []) → h ≡ log ++ entries.Finish w n outs ∷ [] → cs ≡ with_end cells k (length log) → front ≤ front' → front' ≤ length cs
+      → ((j : ℕ) (c : Cell) → front ≤ j → j < front' → slice_get cs j ≡ Some c → IsFinishedCell h c)
+      → ((c : Cell) → slice_get cs front' ≡ Some c → ¬ IsFinishedCell h c)
+      → IsBoard f (log ++ entries.Finish w n outs ∷ []) (with_end cells k (length log)) (set posts w q) g' front' closed starved room
+  board_finished w n k outs p q g' front' h cs may_end own n_is at left same came h_is cs_is more within finished unfinished =
+      board_finish w n k outs p q g' front' may_end own n_is at left same came more (subst (λ (x : List Cell). front' ≤ length x) cs_is within)
+      (subst (λ (x : List Cell). (j : ℕ) (c : Cell) → front ≤ j → j < front' → slice_get x j ≡ Some c → IsFinishedCell (log ++ entries.Finish w n outs ∷ []) c) cs_is
+      (subst (λ (y : List Entry). (j : ℕ) (c : Cell) → front ≤ j → j < front' → slice_get cs j ≡ Some c → IsFinishedCell y c) h_is finished))
+      (subst (λ (x : List Cell). (c : Cell) → slice_get x front' ≡ Some c → ¬ IsFinishedCell (log ++ entries.Finish w n outs ∷ []) c) cs_is
+      (subst (λ (y : List Entry). (c : Cell) → slice_get cs front' ≡ Some c → ¬ IsFinishedCell y c) h_is unfinished))
+
+  pub above_tasks : (r : TaskRecord) → IsNext f.first log r → list_all (λ t. nat_lt t.number r.number) g.tasks ≡ true
+  above_tasks r next = subst (λ (x : TaskGraph). list_all (λ t. nat_lt t.number r.number) x.tasks ≡ true) (sym is.graph_is) (above_all b log r is.legal next)
+
+  pub added_tasks : (r : TaskRecord) (given : List (List ℕ)) → MaySubmit b.code b.limits (submits log) r given → list_all (is_number_added g.tasks) (producers_of r.inputs.items) ≡ true
+  added_tasks r given may = subst (λ (x : TaskGraph). list_all (is_number_added x.tasks) (producers_of r.inputs.items) ≡ true) (sym is.graph_is) (producers_added b log r given may)
