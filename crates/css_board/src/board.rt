@@ -115,13 +115,16 @@ impl Board {
         if self.history.len() >= MOST_ENTRIES || more >= MOST_ENTRIES {
             return Err((rec, given));
         }
-        if self.history.reserve(more).is_err() {
+        let Ok(()) = self.history.reserve(more) else {
             return Err((rec, given));
-        }
-        if self.cells.reserve(1).is_err() {
+        };
+        let Ok(()) = self.cells.reserve(1) else {
             return Err((rec, given));
-        }
-        let Ok(()) = self.graph.add(alloc, rec.number, producers.as_slice(), rec.high) else {
+        };
+        let Ok(()) = self
+            .graph
+            .add(alloc, rec.number, producers.as_slice(), rec.high)
+        else {
             return Err((rec, given));
         };
         let submit = self.history.len();

@@ -27,11 +27,13 @@ pub(crate) fn is_finished(history: &[Entry], cell: Cell) -> bool
     ensures { IsTrue result ↔ IsFinishedCell history.now cell }
 {
     match end_of(history, cell) {
-        Some(Entry::Finish {
-            worker: _,
-            number: _,
-            outs: _,
-        }) => true,
+        Some(
+            Entry::Finish {
+                worker: _,
+                number: _,
+                outs: _,
+            },
+        ) => true,
         _ => false,
     }
 }
