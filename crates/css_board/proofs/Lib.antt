@@ -4,3 +4,4 @@ pub mod Cells
 pub mod Fronts
 pub mod Posts
 pub mod Boards
+pub mod Bundles
