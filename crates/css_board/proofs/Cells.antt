@@ -20,7 +20,7 @@ use Rattle.css_history.proofs.Histories.{submits_more, submits_same, not_named, 
 use Rattle.css_history.proofs.Standings.{ended_lasts}
 use Rattle.css_history.proofs.Numbers.{next_waits}
 use Rattle.css_board.specs.declared.cell.Cell.{Cell}
-use Rattle.css_board.specs.Cells.{told_by, entry_at, end_at, IsFinish, IsFinishedCell, no_cell, with_end, IsEnd, IsCell, AreCells}
+use Rattle.css_board.specs.Cells.{told_by, entry_at, end_at, IsFinish, IsFinishedCell, IsFinishedWith, no_cell, with_end, IsEnd, IsCell, AreCells, AreKept}
 use Rattle.css_board.proofs.Lists.{get_set, get_seam}
 
 -- the entry brings this task to no end
@@ -163,3 +163,27 @@ cell_by log n c (Some place) is (e, end, at, told, ended) (outs, finished) =
 
 pub finished_cell : (log : List Entry) (k n : ℕ) (c : Cell) → IsCell log k n c → IsFinished n log → IsFinishedCell log c
 finished_cell log k n c is finished = cell_by log n c c.end refl is.end_is finished
+
+-- ---- what is looked up
+
+with_by : (log : List Entry) (n : ℕ) (c : Cell) (outs : List (List ℕ)) (o : Option ℕ) → c.end ≡ o → IsEnd log n o → IsFinishedWith log c outs → standing n log ≡ Ended (Outs outs)
+with_by log n c outs None is end (x, at, told) = (let none : None ≡ Some x = sym (ap (λ (p : Option ℕ). entry_at log p) is) ∙ at in absurd (cc))
+with_by log n c outs (Some place) is (e, end, there, tells, ended) (x, at, told) =
+    let both : Some x ≡ Some e = sym at ∙ (ap (λ (p : Option ℕ). entry_at log p) is ∙ there) in
+    let same : x ≡ e = cc in
+    let ends : Some (Outs outs) ≡ Some end = sym told ∙ (ap told_by same ∙ tells) in
+    let one : Outs outs ≡ end = cc in
+    ended ∙ ap Ended (sym one)
+
+pub finished_with : (first : ℕ) (log : List Entry) (cells : List Cell) (k n : ℕ) (c : Cell) (outs : List (List ℕ)) → AreKept first log cells → slice_get cells k ≡ Some c → n ≡ first + k → IsFinishedWith log c outs → standing n log ≡ Ended (Outs outs)
+finished_with first log cells k n c outs kept at n_is with_outs =
+    subst (λ (m : ℕ). standing m log ≡ Ended (Outs outs)) (sym n_is) (with_by log (first + k) c outs c.end refl (kept.cells_are.each k c at).end_is with_outs)
+
+pub unfinished_cell : (first : ℕ) (log : List Entry) (cells : List Cell) (k n : ℕ) (c : Cell) → AreKept first log cells → slice_get cells k ≡ Some c → n ≡ first + k → ¬ IsFinishedCell log c → ¬ IsFinished n log
+unfinished_cell first log cells k n c kept at n_is fails finished =
+    fails (finished_cell log k (first + k) c (kept.cells_are.each k c at) (subst (λ (m : ℕ). IsFinished m log) n_is finished))
+
+pub not_kept : (first : ℕ) (log : List Entry) (cells : List Cell) (n : ℕ) → AreKept first log cells → ((k : ℕ) → k < length cells → n ≢ first + k) → ¬ IsFinished n log
+not_kept first log cells n kept none (outs, ended) =
+    let at = kept.named n (λ waits. absurd (cc)) in
+    none at.0 at.1 at.2

@@ -1,5 +1,5 @@
 -- Elements of lists, once one is set.
-use Rattle.std.proofs.Common.{◌≡◌, ◌≢◌, ◌⊎◌, ℕ, zero, suc, Bool, true, false, true≢false, ◌||◌, ◌==◌, List, [], ◌∷◌, ◌++◌, length, set, Some, refl, ap, sym, ◌∙◌, inl, inr, arith, slice_get}
+use Rattle.std.proofs.Common.{◌≡◌, ◌≢◌, ◌⊎◌, ℕ, zero, suc, Bool, true, false, true≢false, ◌||◌, ◌==◌, List, [], ◌∷◌, ◌++◌, length, set, Some, Option, None, IfSome, IfNone, refl, ap, sym, ◌∙◌, inl, inr, arith, slice_get}
 use Rattle.std.specs.List.{list_all}
 use Rattle.std.proofs.lemmas.Bool.{and_from, eq-eqb}
 use Rattle.css_graph.specs.Tasks.{is_among}
@@ -22,3 +22,12 @@ pub all_among : (p : ℕ → Bool) (numbers : List ℕ) → ((n : ℕ) → is_am
 all_among p [] each = refl
 all_among p (n ∷ numbers) each =
     and_from (p n) (list_all p numbers) (each n (or_left (n == n) (is_among numbers n) (eq-eqb n n refl))) (all_among p numbers (λ m e. each m (or_right (n == m) (is_among numbers m) e)))
+
+-- what is said of an option that is there, or isn't
+pub some_weaker : {X : Type 0} (a : Option X) (P Q : X → Type 0) → ((x : X) → P x → Q x) → IfSome a P → IfSome a Q
+some_weaker None P Q weak h = tt
+some_weaker (Some x) P Q weak h = weak x h
+
+pub none_weaker : {X : Type 0} (a : Option X) (P Q : Type 0) → (P → Q) → IfNone a P → IfNone a Q
+none_weaker None P Q weak h = weak h
+none_weaker (Some x) P Q weak h = tt

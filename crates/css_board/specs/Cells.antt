@@ -1,10 +1,12 @@
 -- What the board has at hand of each task, which is what the history says.
 use Rattle.std.specs.Prelude.{◌≡◌, ◌≢◌, ◌+◌, ◌<◌, ◌≤◌, ℕ, List, [], ◌∷◌, length, Option, Some, None, slice_get, slice_set, slice_index_or}
+use Rattle.css_record.specs.declared.version.VersionName.{VersionName}
+use Rattle.css_record.specs.declared.version.VersionName.TheVariants as names
 use Rattle.css_task.specs.Alone.{End, Outs, Halted}
 use Rattle.css_yard.specs.Values.{Submit}
 use Rattle.css_history.specs.declared.entry.Entry.{Entry}
 use Rattle.css_history.specs.declared.entry.Entry.TheVariants as entries
-use Rattle.css_history.specs.Histories.{submits, Ended, standing, IsFinished}
+use Rattle.css_history.specs.Histories.{submits, Waiting, Ended, standing, IsFinished}
 use Rattle.css_board.specs.declared.cell.Cell.{Cell}
 
 -- the end that an entry tells
@@ -59,3 +61,18 @@ pub record IsFront (first : ℕ) (log : List Entry) (front : ℕ) : Type 0 where
   pub within : front ≤ length (submits log)
   pub finished : (k : ℕ) → k < front → IsFinished (first + k) log
   pub unfinished : front < length (submits log) → ¬ IsFinished (first + front) log
+
+-- the cells, and each task that was named has one
+pub record AreKept (first : ℕ) (log : List Entry) (cells : List Cell) : Type 0 where
+  pub cells_are : AreCells first log cells
+  pub named : (n : ℕ) → standing n log ≢ Waiting → (k : ℕ) × (k < length cells) × (n ≡ first + k)
+
+-- the entry of a cell's end is a finish with these
+abbrev pub IsFinishedWith : List Entry → Cell → (outs : List (List ℕ)) → Type 0
+IsFinishedWith log c outs = (e : Entry) × (end_at log c ≡ Some e) × (told_by e ≡ Some (Outs outs))
+
+-- a version that a task makes has these bytes
+abbrev pub IsFoundMade : List Entry → VersionName → (bytes : List ℕ) → Type 0
+IsFoundMade log (names.Given place) bytes = ⊥
+IsFoundMade log (names.Made task out) bytes =
+    (outs : List (List ℕ)) × (standing task log ≡ Ended (Outs outs)) × (slice_get outs out ≡ Some bytes)
