@@ -2,14 +2,16 @@
 use Rattle.std.proofs.Common.{Vec, Global, ◌≡◌, ◌≢◌, ◌⊎◌, ℕ, ◌+◌, ◌<◌, ◌≤◌, ◌^◌, ◌||◌, ◌==◌, Bool, true, false, true≢false, IsTrue, nat_eq, nat_lt, cond, not, List, [], ◌∷◌, ◌++◌, length, set, get_or, Some, None, slice_get, Contains, refl, ap, sym, ◌∙◌, subst, inl, inr, arith, length-append, replicate}
 use Rattle.std.specs.List.{list_any, list_all, sum_by}
 use Rattle.std.specs.Arc.{arc_value}
-use Rattle.std.proofs.lemmas.Bool.{cases_Bool, eqb-true, eq-eqb}
+use Rattle.std.proofs.lemmas.Bool.{cases_Bool, cases_lt, eqb-true, eq-eqb}
 use Rattle.std.proofs.lemmas.List.Sums.{sum_by_more_le}
 use Rattle.std.proofs.lemmas.Option.{slice_get_within, get_or_from_slice_get}
 use Rattle.css_base.specs.Limits.{IsInRange}
 use Rattle.css_base.specs.declared.ending.Stop.{Stop}
 use Rattle.css_record.specs.declared.task_record.TaskRecord.{TaskRecord}
+use Rattle.css_record.specs.declared.version.VersionName.{VersionName}
+use Rattle.css_record.specs.declared.version.VersionName.TheVariants as names
 use Rattle.css_task.specs.Alone.{End, Outs, Halted}
-use Rattle.css_yard.specs.Values.{Submit}
+use Rattle.css_yard.specs.Values.{Submit, IsValue}
 use Rattle.css_yard.specs.Yards.{MaySubmit}
 use Rattle.css_yard.proofs.Lists.{place_of, is_within, has_place}
 use Rattle.css_graph.specs.Tasks.{TaskGraph, is_among, where_come, with_task, is_number_out, is_number_added}
@@ -18,21 +20,23 @@ use Rattle.css_history.specs.declared.entry.Entry.{Entry}
 use Rattle.css_history.specs.declared.entry.Entry.TheVariants as entries
 use Rattle.css_history.specs.declared.fixed.Fixed.{Fixed}
 use Rattle.css_history.specs.Terms.{Terms, terms_of}
-use Rattle.css_history.specs.Histories.{maker, Ended, submitted, submits, named, comes, without, held, closes, hungry, is_some_worker, is_worker, is_closed, is_starved, has_starved, IsFinished}
+use Rattle.css_history.specs.Histories.{maker, Waiting, Ended, standing, submitted, submits, named, comes, without, held, closes, hungry, is_some_worker, is_worker, is_closed, is_starved, has_starved, IsFinished}
 use Rattle.css_history.specs.Rules.{IsSubmit, IsNext, MayEnd}
 use Rattle.css_history.specs.Bodies.{IsOfBody}
 use Rattle.css_history.specs.Legal.{MayFollow, Legal, IsLegal}
 use Rattle.css_history.proofs.Bools.{or_left, or_right}
 use Rattle.css_history.proofs.Histories.{held_more, any_more, is_named, not_named}
-use Rattle.css_history.proofs.Numbers.{index_of, numbered}
+use Rattle.css_history.proofs.Numbers.{index_of, numbered, submit_of}
+use Rattle.css_history.proofs.Values.{values_are_own, first_stops}
+use Rattle.css_history.specs.Seats.{IsFirst}
 use Rattle.css_board.specs.declared.cell.Cell.{Cell}
 use Rattle.css_board.specs.declared.post.Post.{Post}
 use Rattle.css_board.specs.Graphs.{state_of, producers_of, tasks_of, graph_of}
-use Rattle.css_board.specs.Cells.{told_by, with_end, AreCells, IsFront, IsFinishedCell}
+use Rattle.css_board.specs.Cells.{told_by, with_end, AreCells, IsFront, IsFinishedCell, IsFoundMade, IsStopOf, AreKept}
 use Rattle.css_board.specs.Posts.{one_if_not, coming_of, coming, has_held, IsPost, ArePosts}
 use Rattle.css_board.specs.Boards.{IsBoard, AreAllFinished}
 use Rattle.css_board.proofs.Graphs.{graph_named, graph_same, graph_submit, above_all, producers_added, out_number, all_out}
-use Rattle.css_board.proofs.Cells.{cells_same, cells_ended, cells_submit, ends_other}
+use Rattle.css_board.proofs.Cells.{cells_same, cells_ended, cells_submit, stop_of, stopped_cell}
 use Rattle.css_board.proofs.Fronts.{front_same, front_moved, front_submit, finishes_none}
 use Rattle.css_board.proofs.Posts.{same_any, starved_same, posts_same, posts_set, coming_set}
 
@@ -327,3 +331,57 @@ module _ (f : Fixed) (log : List Entry) (cells : List Cell) (posts : List Post) 
 
   pub added_tasks : (r : TaskRecord) (given : List (List ℕ)) → MaySubmit b.code b.limits (submits log) r given → list_all (is_number_added g.tasks) (producers_of r.inputs.items) ≡ true
   added_tasks r given may = subst (λ (x : TaskGraph). list_all (is_number_added x.tasks) (producers_of r.inputs.items) ≡ true) (sym is.graph_is) (producers_added b log r given may)
+
+  pub kept_is : AreKept f.first log cells
+  kept_is = record {
+    cells_are = is.cells_are;
+    named = λ n out. (
+      let it = submit_of b log is.legal n out in
+      let at = index_of b log is.legal n it.0 it.1 in
+      (at.0, omega (arith, slice_get_within (submits log) at.0 it.0 at.1, is.cells_are.all), at.2)
+    );
+  }
+
+  pub made_value : (version : VersionName) (bytes : List ℕ) → IsFoundMade log version bytes → IsValue b.code b.limits.task_units (submits log) [] version bytes
+  made_value (names.Given place) bytes found = absurd found
+  made_value (names.Made task out) bytes found = values_are_own b log is.legal [] (names.Made task out) bytes found
+
+  -- the task at the front is first, if it stopped
+  pub front_first : (c : Cell) (n : ℕ) (stop : Stop) (line : ℕ) → slice_get cells front ≡ Some c → IsStopOf log c n stop line → IsFirst log n stop line
+  front_first c n stop line at stops =
+      let here = stop_of log front (f.first + front) n c stop line (is.cells_are.each front c at) stops in
+      record {
+        stops = subst (λ (m : ℕ). standing m log ≡ Ended (Halted stop line)) (sym here.0) here.1;
+        lower = λ s has below. (
+          let place = place_of (submits log) s has in
+          let number = numbered b log is.legal place.0 s place.1 in
+          subst (λ (m : ℕ). IsFinished m log) (sym number) (is.front_is.finished place.0 (omega (arith, here.0, number, below)))
+        );
+      }
+
+  -- and no other
+  pub first_at_front : (n : ℕ) (stop : Stop) (line : ℕ) → IsFirst log n stop line → (n ≡ f.first + front) × (front < length cells)
+  first_at_front n stop line first =
+      let at = kept_is.named n (λ waits. absurd (let both : Waiting ≡ Ended (Halted stop line) = sym waits ∙ first.stops in cc)) in
+      elim (cases_lt front at.0) [
+        | inl below ↦
+            let inside : front < length (submits log) = omega (arith, below, at.1, is.cells_are.all) in
+            let s = is_within (submits log) front inside in
+            let number = numbered b log is.legal front s.0 s.1 in
+            absurd (is.front_is.unfinished inside (subst (λ (m : ℕ). IsFinished m log) number (first.lower s.0 (has_place (submits log) front s.0 s.1) (omega (arith, number, at.2, below)))))
+        | inr above ↦ elim (cases_lt at.0 front) [
+          | inl under ↦
+              let done = subst (λ (m : ℕ). IsFinished m log) (sym at.2) (is.front_is.finished at.0 under) in
+              let both : Ended (Outs done.0) ≡ Ended (Halted stop line) = sym done.1 ∙ first.stops in
+              absurd (cc)
+          | inr same ↦ (omega (arith, above, same, at.2), omega (arith, above, same, at.1))
+        ]
+      ]
+
+  pub none_first : (c : Cell) → slice_get cells front ≡ Some c → ((n : ℕ) (stop : Stop) (line : ℕ) → ¬ IsStopOf log c n stop line) → (n : ℕ) (stop : Stop) (line : ℕ) → ¬ IsFirst log n stop line
+  none_first c at none n stop line first =
+      let where_is = first_at_front n stop line first in
+      none (f.first + front) stop line (stopped_cell log front (f.first + front) c stop line (is.cells_are.each front c at) (subst (λ (m : ℕ). standing m log ≡ Ended (Halted stop line)) where_is.0 first.stops))
+
+  pub none_behind : length cells ≤ front → (n : ℕ) (stop : Stop) (line : ℕ) → ¬ IsFirst log n stop line
+  none_behind behind n stop line first = let where_is = first_at_front n stop line first in absurd (omega (arith, where_is.1, behind))

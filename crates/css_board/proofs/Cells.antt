@@ -20,7 +20,7 @@ use Rattle.css_history.proofs.Histories.{submits_more, submits_same, not_named, 
 use Rattle.css_history.proofs.Standings.{ended_lasts}
 use Rattle.css_history.proofs.Numbers.{next_waits}
 use Rattle.css_board.specs.declared.cell.Cell.{Cell}
-use Rattle.css_board.specs.Cells.{told_by, entry_at, end_at, IsFinish, IsFinishedCell, IsFinishedWith, no_cell, with_end, IsEnd, IsCell, AreCells, AreKept}
+use Rattle.css_board.specs.Cells.{told_by, entry_at, end_at, IsFinish, IsFinishedCell, IsFinishedWith, IsStopOf, no_cell, with_end, IsEnd, IsCell, AreCells, AreKept}
 use Rattle.css_board.proofs.Lists.{get_set, get_seam}
 
 -- the entry brings this task to no end
@@ -51,7 +51,7 @@ module _ (b : Terms) (log : List Entry) (e : Entry) (legal : Legal b log) (may :
 
   end_kept : (n : ℕ) (o : Option ℕ) → EndsNot log e n → IsEnd log n o → IsEnd longer n o
   end_kept n None not_ended is = λ end ended. is end (not_ended end ended)
-  end_kept n (Some place) not_ended (x, end, at, told, ended) = (x, end, before_more log (e ∷ []) place x at, told, ended_lasts b n end log e legal may ended)
+  end_kept n (Some place) not_ended (x, end, at, told, ended, names) = (x, end, before_more log (e ∷ []) place x at, told, ended_lasts b n end log e legal may ended, names)
 
   more_submits : (k : ℕ) (s : Submit) → slice_get (submits log) k ≡ Some s → slice_get (submits longer) k ≡ Some s
   more_submits k s at = subst (λ l. slice_get l k ≡ Some s) (sym (submits_more log e)) (before_more (submits log) (submitted e) k s at)
@@ -83,7 +83,7 @@ module _ (b : Terms) (log : List Entry) (e : Entry) (legal : Legal b log) (may :
         task = was.task;
         task_is = more_submits k was.task was.task_is;
         submit_is = before_more log (e ∷ []) old.submit (entries.Submit was.task.rec was.task.given) was.submit_is;
-        end_is = (e, end, get_seam log [] e, told, is_named log e (b.first + k) among ∙ comes_is);
+        end_is = (e, end, get_seam log [] e, told, is_named log e (b.first + k) among ∙ comes_is, names ∙ ap (λ (n : ℕ). n ∷ []) m_is);
       } in
       record {
         all = length-set cells k new ∙ (are.all ∙ ap length (sym (submits_same log e none)));
@@ -145,7 +145,7 @@ finished_by : (log : List Entry) (n : ℕ) (c : Cell) (o : Option ℕ) → c.end
 finished_by log n c None is end finished =
     let none : end_at log c ≡ None = ap (λ (p : Option ℕ). entry_at log p) is in
     absurd (subst IsFinish none finished)
-finished_by log n c (Some place) is (e, end, at, told, ended) finished =
+finished_by log n c (Some place) is (e, end, at, told, ended, names) finished =
     let there : end_at log c ≡ Some e = ap (λ (p : Option ℕ). entry_at log p) is ∙ at in
     let outs = is_finish e end (subst IsFinish there finished) told in
     (outs.0, ended ∙ ap Ended outs.1)
@@ -155,7 +155,7 @@ cell_finished log k n c is finished = finished_by log n c c.end refl is.end_is f
 
 cell_by : (log : List Entry) (n : ℕ) (c : Cell) (o : Option ℕ) → c.end ≡ o → IsEnd log n o → IsFinished n log → IsFinishedCell log c
 cell_by log n c None is end (outs, finished) = absurd (end (Outs outs) finished)
-cell_by log n c (Some place) is (e, end, at, told, ended) (outs, finished) =
+cell_by log n c (Some place) is (e, end, at, told, ended, names) (outs, finished) =
     let there : end_at log c ≡ Some e = ap (λ (p : Option ℕ). entry_at log p) is ∙ at in
     let both : Ended end ≡ Ended (Outs outs) = sym ended ∙ finished in
     let same : end ≡ Outs outs = cc in
@@ -168,7 +168,7 @@ finished_cell log k n c is finished = cell_by log n c c.end refl is.end_is finis
 
 with_by : (log : List Entry) (n : ℕ) (c : Cell) (outs : List (List ℕ)) (o : Option ℕ) → c.end ≡ o → IsEnd log n o → IsFinishedWith log c outs → standing n log ≡ Ended (Outs outs)
 with_by log n c outs None is end (x, at, told) = (let none : None ≡ Some x = sym (ap (λ (p : Option ℕ). entry_at log p) is) ∙ at in absurd (cc))
-with_by log n c outs (Some place) is (e, end, there, tells, ended) (x, at, told) =
+with_by log n c outs (Some place) is (e, end, there, tells, ended, names) (x, at, told) =
     let both : Some x ≡ Some e = sym at ∙ (ap (λ (p : Option ℕ). entry_at log p) is ∙ there) in
     let same : x ≡ e = cc in
     let ends : Some (Outs outs) ≡ Some end = sym told ∙ (ap told_by same ∙ tells) in
@@ -187,3 +187,37 @@ pub not_kept : (first : ℕ) (log : List Entry) (cells : List Cell) (n : ℕ) �
 not_kept first log cells n kept none (outs, ended) =
     let at = kept.named n (λ waits. absurd (cc)) in
     none at.0 at.1 at.2
+
+-- a stop in a cell is its task's
+stop_by : (log : List Entry) (m n : ℕ) (c : Cell) (stop : Stop) (line : ℕ) (o : Option ℕ) → c.end ≡ o → IsEnd log m o → IsStopOf log c n stop line → (n ≡ m) × (standing m log ≡ Ended (Halted stop line))
+stop_by log m n c stop line None is end (w, at) = (let none : None ≡ Some (entries.Stop w n stop line) = sym (ap (λ (p : Option ℕ). entry_at log p) is) ∙ at in absurd (cc))
+stop_by log m n c stop line (Some place) is (e, end, there, tells, ended, names) (w, at) =
+    let both : Some e ≡ Some (entries.Stop w n stop line) = sym there ∙ (sym (ap (λ (p : Option ℕ). entry_at log p) is) ∙ at) in
+    let same : e ≡ entries.Stop w n stop line = cc in
+    let ends : Some (Halted stop line) ≡ Some end = sym (ap told_by same) ∙ tells in
+    let one : Halted stop line ≡ end = cc in
+    let numbers : n ∷ [] ≡ m ∷ [] = sym (ap named same) ∙ names in
+    (cc, ended ∙ ap Ended (sym one))
+
+pub stop_of : (log : List Entry) (k m n : ℕ) (c : Cell) (stop : Stop) (line : ℕ) → IsCell log k m c → IsStopOf log c n stop line → (n ≡ m) × (standing m log ≡ Ended (Halted stop line))
+stop_of log k m n c stop line is at = stop_by log m n c stop line c.end refl is.end_is at
+
+told_stop : (e : Entry) (n : ℕ) (stop : Stop) (line : ℕ) → told_by e ≡ Some (Halted stop line) → named e ≡ n ∷ [] → (w : ℕ) × (e ≡ entries.Stop w n stop line)
+told_stop (entries.Submit rec given) n stop line told names = absurd (cc)
+told_stop (entries.Take w numbers) n stop line told names = absurd (cc)
+told_stop (entries.Finish w m outs) n stop line told names = absurd (cc)
+told_stop (entries.Stop w m s l) n stop line told names = (w, cc)
+told_stop (entries.Back w numbers) n stop line told names = absurd (cc)
+told_stop (entries.Starved w) n stop line told names = absurd (cc)
+told_stop entries.Close n stop line told names = absurd (cc)
+
+stopped_by : (log : List Entry) (m : ℕ) (c : Cell) (stop : Stop) (line : ℕ) (o : Option ℕ) → c.end ≡ o → IsEnd log m o → standing m log ≡ Ended (Halted stop line) → IsStopOf log c m stop line
+stopped_by log m c stop line None is end stopped = absurd (end (Halted stop line) stopped)
+stopped_by log m c stop line (Some place) is (e, end, there, tells, ended, names) stopped =
+    let both : Ended end ≡ Ended (Halted stop line) = sym ended ∙ stopped in
+    let same : end ≡ Halted stop line = cc in
+    let it = told_stop e m stop line (tells ∙ ap Some same) names in
+    (it.0, ap (λ (p : Option ℕ). entry_at log p) is ∙ (there ∙ ap Some it.1))
+
+pub stopped_cell : (log : List Entry) (k m : ℕ) (c : Cell) (stop : Stop) (line : ℕ) → IsCell log k m c → standing m log ≡ Ended (Halted stop line) → IsStopOf log c m stop line
+stopped_cell log k m c stop line is stopped = stopped_by log m c stop line c.end refl is.end_is stopped

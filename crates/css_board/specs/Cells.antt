@@ -1,12 +1,13 @@
 -- What the board has at hand of each task, which is what the history says.
 use Rattle.std.specs.Prelude.{◌≡◌, ◌≢◌, ◌+◌, ◌<◌, ◌≤◌, ℕ, List, [], ◌∷◌, length, Option, Some, None, slice_get, slice_set, slice_index_or}
+use Rattle.css_base.specs.declared.ending.Stop.{Stop}
 use Rattle.css_record.specs.declared.version.VersionName.{VersionName}
 use Rattle.css_record.specs.declared.version.VersionName.TheVariants as names
 use Rattle.css_task.specs.Alone.{End, Outs, Halted}
 use Rattle.css_yard.specs.Values.{Submit}
 use Rattle.css_history.specs.declared.entry.Entry.{Entry}
 use Rattle.css_history.specs.declared.entry.Entry.TheVariants as entries
-use Rattle.css_history.specs.Histories.{submits, Waiting, Ended, standing, IsFinished}
+use Rattle.css_history.specs.Histories.{submits, Waiting, Ended, named, standing, IsFinished}
 use Rattle.css_board.specs.declared.cell.Cell.{Cell}
 
 -- the end that an entry tells
@@ -43,7 +44,7 @@ with_end cells index place = slice_set cells index (record { submit = (slice_ind
 -- it says where the task came to its end
 abbrev pub IsEnd : List Entry → (n : ℕ) → Option ℕ → Type 0
 IsEnd log n None = (end : End) → standing n log ≢ Ended end
-IsEnd log n (Some place) = (e : Entry) × (end : End) × (slice_get log place ≡ Some e) × (told_by e ≡ Some end) × (standing n log ≡ Ended end)
+IsEnd log n (Some place) = (e : Entry) × (end : End) × (slice_get log place ≡ Some e) × (told_by e ≡ Some end) × (standing n log ≡ Ended end) × (named e ≡ n ∷ [])
 
 pub record IsCell (log : List Entry) (k n : ℕ) (c : Cell) : Type 0 where
   pub task : Submit
@@ -76,3 +77,7 @@ abbrev pub IsFoundMade : List Entry → VersionName → (bytes : List ℕ) → T
 IsFoundMade log (names.Given place) bytes = ⊥
 IsFoundMade log (names.Made task out) bytes =
     (outs : List (List ℕ)) × (standing task log ≡ Ended (Outs outs)) × (slice_get outs out ≡ Some bytes)
+
+-- a stop of the task of this number, by the entry of a cell's end
+abbrev pub IsStopOf : List Entry → Cell → (n : ℕ) → Stop → (line : ℕ) → Type 0
+IsStopOf log c n stop line = (w : ℕ) × (end_at log c ≡ Some (entries.Stop w n stop line))

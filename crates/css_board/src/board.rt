@@ -1,5 +1,5 @@
 //! The board.
-ghost use Rattle.std.specs.Prelude.{◌≡◌, ◌≢◌, ◌<◌, ◌↔◌, ◌++◌, ◌∷◌, [], ℕ, true, false, Some, None, IfOk, IfErr, OnOk, OnErr, IsTrue};
+ghost use Rattle.std.specs.Prelude.{◌≡◌, ◌≢◌, ◌<◌, ◌↔◌, ◌++◌, ◌∷◌, [], ℕ, true, false, Some, None, IfOk, IfErr, IfSome, IfNone, List, OnOk, OnErr, IsTrue};
 ghost use Rattle.std.specs.Arc.{arc_value};
 ghost use Rattle.css_base.specs.Limits.{IsInRange};
 ghost use Rattle.css_vm.specs.Code.{code_of};
@@ -12,15 +12,20 @@ ghost use Rattle.css_history.specs.Histories.{maker, submits, held, is_closed, i
 ghost use Rattle.css_history.specs.Rules.{IsNext, MayEnd};
 ghost use Rattle.css_history.specs.Bodies.{IsOfBody};
 ghost use Rattle.css_history.specs.Legal.{IsLegal};
+ghost use Rattle.css_base.specs.declared.ending.Stop.{Stop as Cause};
+ghost use Rattle.css_yard.specs.Values.{IsValue, IsFirstStop};
+ghost use Rattle.css_history.specs.Seats.{IsFirst};
+ghost use Rattle.css_board.specs.Cells.{IsFoundMade};
 ghost use Rattle.css_board.specs.Boards.{graph, AreAllFinished};
 
-use crate::cell::{Cell, front_from, set_end};
+use crate::cell::{Cell, front_from, set_end, stop_of};
+use crate::lookup::{cell_at, value_of};
 use crate::post::{Post, coming, let_go, posts_of, replace_held, set_starved};
 use crate::producers::producers_of;
 use css_base::{Buffer, Limits, Line, NoMemory, Stop};
 use css_graph::Graph;
 use css_history::{Entry, Fixed};
-use css_record::TaskRecord;
+use css_record::{TaskRecord, VersionName};
 use css_seen::{Lawful, Told};
 use css_traces::Items;
 use css_vm::Code;
@@ -212,6 +217,30 @@ impl Board {
     {
         self.closed = true;
         self.history.push_reserved(Entry::Close);
+    }
+
+    /// The value of a version, which a task makes. None exactly where it isn't there: so of a version that a task of the board makes,
+    /// where that task isn't finished. Takes no memory.
+    pub fn value(&self, version: VersionName) -> Option<&Buffer>
+        ensures found { IfSome result (λ b. IsFoundMade self.now.history version b.now) }
+        ensures value { IfSome result (λ b. IsValue (code_of (arc_value self.now.fixed.code)) self.now.fixed.limits.task_units (submits self.now.history) [] version b.now) }
+        ensures none { IfNone result ((bytes : List ℕ) → ¬ IsFoundMade self.now.history version bytes) }
+    {
+        value_of(&self.history, &self.cells, self.fixed.first, version)
+    }
+
+    /// The task that stopped and below which all tasks of the board are finished, with its stop and line. None exactly where there is
+    /// none. It is the first that stops. Takes no memory.
+    pub fn first_stop(&self) -> Option<(u64, Stop, Line)>
+        ensures is_first { IfSome result (λ r. IsFirst self.now.history r.0 r.1 r.2) }
+        ensures stops { IfSome result (λ r. IsFirstStop (code_of (arc_value self.now.fixed.code)) self.now.fixed.limits.task_units (submits self.now.history) r.0 r.1 r.2) }
+        ensures none { IfNone result ((n : ℕ) (stop : Cause) (line : ℕ) → ¬ IsFirst self.now.history n stop line) }
+    {
+        if self.front >= self.cells.len() {
+            return None;
+        }
+        let cell = cell_at(&self.cells, self.front);
+        stop_of(&self.history, cell)
     }
 
     /// Whether each task is finished.

@@ -1,7 +1,9 @@
 //! What the board has at hand of each task.
 ghost use Rattle.std.specs.Prelude.{◌≡◌, ◌≤◌, ◌<◌, ℕ, length, slice_get, Some, None, IfSome, IfNone, IsTrue, ◌↔◌};
-ghost use Rattle.css_board.specs.Cells.{with_end, IsFinishedCell, end_at};
+ghost use Rattle.css_base.specs.declared.ending.Stop.{Stop as Cause};
+ghost use Rattle.css_board.specs.Cells.{with_end, IsFinishedCell, IsStopOf, end_at};
 
+use css_base::{Line, Stop};
 use css_history::Entry;
 
 /// The places of the history at which a task was submitted, and at which it came to its end.
@@ -35,6 +37,22 @@ pub(crate) fn is_finished(history: &[Entry], cell: Cell) -> bool
             },
         ) => true,
         _ => false,
+    }
+}
+
+/// Which task stopped, and how, if it did.
+pub(crate) fn stop_of(history: &[Entry], cell: Cell) -> Option<(u64, Stop, Line)>
+    ensures some { IfSome result (λ r. IsStopOf history.now cell r.0 r.1 r.2) }
+    ensures none { IfNone result ((n : ℕ) (stop : Cause) (line : ℕ) → ¬ IsStopOf history.now cell n stop line) }
+{
+    match end_of(history, cell) {
+        Some(Entry::Stop {
+            worker: _,
+            number,
+            stop,
+            line,
+        }) => Some((*number, *stop, *line)),
+        _ => None,
     }
 }
 

@@ -32,7 +32,7 @@ pub(crate) fn outs_of<'a>(
 }
 
 /// The cell at an index.
-fn cell_at(cells: &[Cell], index: usize) -> Cell
+pub(crate) fn cell_at(cells: &[Cell], index: usize) -> Cell
     requires { index < length cells.now }
     ensures { slice_get cells.now index ≡ Some result }
 {
