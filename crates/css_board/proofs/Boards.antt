@@ -1,5 +1,5 @@
 -- A board, once its history has one entry more.
-use Rattle.std.proofs.Common.{Vec, Global, ◌≡◌, ◌≢◌, ◌⊎◌, ℕ, ◌+◌, ◌<◌, ◌≤◌, ◌^◌, ◌||◌, ◌==◌, Bool, true, false, true≢false, IsTrue, nat_eq, nat_lt, cond, not, List, [], ◌∷◌, ◌++◌, length, set, get_or, Some, None, slice_get, Contains, refl, ap, sym, ◌∙◌, subst, inl, inr, arith, length-append, replicate}
+use Rattle.std.proofs.Common.{Vec, Global, ◌≡◌, ◌≢◌, ◌⊎◌, ℕ, ◌+◌, ◌<◌, ◌≤◌, ◌^◌, ◌||◌, ◌==◌, Bool, true, false, true≢false, IsTrue, nat_eq, nat_lt, cond, not, List, [], ◌∷◌, ◌++◌, length, set, get_or, Some, None, slice_get, Contains, map, refl, ap, ap₂, sym, ◌∙◌, subst, inl, inr, arith, length-append}
 use Rattle.std.specs.List.{list_any, list_all, sum_by}
 use Rattle.std.specs.Arc.{arc_value}
 use Rattle.std.proofs.lemmas.Bool.{cases_Bool, cases_lt, eqb-true, eq-eqb}
@@ -14,14 +14,21 @@ use Rattle.css_task.specs.Alone.{End, Outs, Halted}
 use Rattle.css_yard.specs.Values.{Submit, IsValue}
 use Rattle.css_yard.specs.Yards.{MaySubmit}
 use Rattle.css_yard.proofs.Lists.{place_of, is_within, has_place}
-use Rattle.css_graph.specs.Tasks.{TaskGraph, is_among, where_come, with_task, is_number_out, is_number_added}
+use Rattle.css_graph.specs.Tasks.{Task, TaskGraph, come_to, is_among, where_come, with_task, is_number_out, is_number_added}
+use Rattle.css_graph.specs.declared.state.TaskState.{TaskState}
+use Rattle.css_graph.specs.declared.state.TaskState.TheVariants as states
+use Rattle.css_graph.specs.Bundle.{AreDifferent, bundle}
+use Rattle.css_history.proofs.Standings.{taken_waits}
+use Rattle.css_graph.proofs.Takeable.{among_append}
+use Rattle.css_board.proofs.Lists.{all_among}
+use Rattle.css_board.proofs.Bundles.{bundle_may}
 use Rattle.css_seen.proofs.Lasting.{legal_more}
 use Rattle.css_history.specs.declared.entry.Entry.{Entry}
 use Rattle.css_history.specs.declared.entry.Entry.TheVariants as entries
 use Rattle.css_history.specs.declared.fixed.Fixed.{Fixed}
 use Rattle.css_history.specs.Terms.{Terms, terms_of}
 use Rattle.css_history.specs.Histories.{maker, Waiting, Ended, standing, submitted, submits, named, comes, without, held, closes, hungry, is_some_worker, is_worker, is_closed, is_starved, has_starved, IsFinished}
-use Rattle.css_history.specs.Rules.{IsSubmit, IsNext, MayEnd}
+use Rattle.css_history.specs.Rules.{IsSubmit, IsNext, MayTake, MayEnd}
 use Rattle.css_history.specs.Bodies.{IsOfBody}
 use Rattle.css_history.specs.Legal.{MayFollow, Legal, IsLegal}
 use Rattle.css_history.proofs.Bools.{or_left, or_right}
@@ -31,7 +38,7 @@ use Rattle.css_history.proofs.Values.{values_are_own, first_stops}
 use Rattle.css_history.specs.Seats.{IsFirst}
 use Rattle.css_board.specs.declared.cell.Cell.{Cell}
 use Rattle.css_board.specs.declared.post.Post.{Post}
-use Rattle.css_board.specs.Graphs.{state_of, producers_of, tasks_of, graph_of}
+use Rattle.css_board.specs.Graphs.{state_of, producers_of, task_of, tasks_of, graph_of}
 use Rattle.css_board.specs.Cells.{told_by, with_end, AreCells, IsFront, IsFinishedCell, IsFoundMade, IsStopOf, AreKept}
 use Rattle.css_board.specs.Posts.{one_if_not, coming_of, coming, has_held, IsPost, ArePosts}
 use Rattle.css_board.specs.Boards.{IsBoard, AreAllFinished}
@@ -336,10 +343,10 @@ module _ (f : Fixed) (log : List Entry) (cells : List Cell) (posts : List Post) 
   kept_is = record {
     cells_are = is.cells_are;
     named = λ n out. (
-      let it = submit_of b log is.legal n out in
-      let at = index_of b log is.legal n it.0 it.1 in
-      (at.0, omega (arith, slice_get_within (submits log) at.0 it.0 at.1, is.cells_are.all), at.2)
-    );
+        let it = submit_of b log is.legal n out in
+        let at = index_of b log is.legal n it.0 it.1 in
+        (at.0, omega (arith, slice_get_within (submits log) at.0 it.0 at.1, is.cells_are.all), at.2)
+        );
   }
 
   pub made_value : (version : VersionName) (bytes : List ℕ) → IsFoundMade log version bytes → IsValue b.code b.limits.task_units (submits log) [] version bytes
@@ -353,10 +360,10 @@ module _ (f : Fixed) (log : List Entry) (cells : List Cell) (posts : List Post) 
       record {
         stops = subst (λ (m : ℕ). standing m log ≡ Ended (Halted stop line)) (sym here.0) here.1;
         lower = λ s has below. (
-          let place = place_of (submits log) s has in
-          let number = numbered b log is.legal place.0 s place.1 in
-          subst (λ (m : ℕ). IsFinished m log) (sym number) (is.front_is.finished place.0 (omega (arith, here.0, number, below)))
-        );
+            let place = place_of (submits log) s has in
+            let number = numbered b log is.legal place.0 s place.1 in
+            subst (λ (m : ℕ). IsFinished m log) (sym number) (is.front_is.finished place.0 (omega (arith, here.0, number, below)))
+            );
       }
 
   -- and no other
@@ -385,3 +392,60 @@ module _ (f : Fixed) (log : List Entry) (cells : List Cell) (posts : List Post) 
 
   pub none_behind : length cells ≤ front → (n : ℕ) (stop : Stop) (line : ℕ) → ¬ IsFirst log n stop line
   none_behind behind n stop line first = let where_is = first_at_front n stop line first in absurd (omega (arith, where_is.1, behind))
+
+  restored_map : (ns : List ℕ) → MayTake log [] ns → (ss : List Submit) → come_to states.Waiting ns (come_to states.Out ns (map (task_of log) ss)) ≡ map (task_of log) ss
+  unfolding come_to
+  restored_map ns may [] = refl
+  restored_map ns may (s ∷ ss) = elim (cases_Bool (is_among ns s.rec.number)) [
+    | inl among ↦ rw among (ap₂ (λ (st : TaskState) (xs : List Task). record { number = s.rec.number; producers = producers_of s.rec.inputs.items; high = s.rec.high; state = st } ∷ xs) (sym (ap state_of (taken_waits log [] ns s.rec.number may among))) (restored_map ns may ss))
+    | inr apart ↦ rw apart (ap (λ (xs : List Task). task_of log s ∷ xs) (restored_map ns may ss))
+  ]
+
+  -- what was taken out and came back
+  pub restored : (ns : List ℕ) → MayTake log [] ns → where_come (where_come g states.Out ns) states.Waiting ns ≡ g
+  restored ns may =
+      ap (λ (x : TaskGraph). where_come (where_come x states.Out ns) states.Waiting ns) is.graph_is
+      ∙ (ap (λ (ts : List Task). record { workers = f.limits.workers; tasks = ts }) (restored_map ns may (submits log)) ∙ sym is.graph_is)
+
+  pub takes : (most : ℕ) (ns : List ℕ) → ns ≡ bundle g most → AreDifferent ns → MayTake log [] ns
+  takes most ns are differ =
+      let all : ns ≡ bundle (graph_of f.limits.workers log) most = are ∙ ap (λ (x : TaskGraph). bundle x most) is.graph_is in
+      subst (MayTake log []) (sym all) (bundle_may b log is.legal f.limits.workers most (subst AreDifferent all differ))
+
+  pub board_take : (w : ℕ) (p q : Post) (ns : List ℕ) (g' : TaskGraph) (most room' : ℕ) → MayTake log [] ns → slice_get posts w ≡ Some p → q.held.items ≡ p.held.items ++ ns → q.starved ≡ p.starved → length ns ≤ most
+      → g' ≡ where_come g states.Out ns → length log + (coming posts + most + 2) ≤ room' → length log < 2 ^ 60 → coming posts + most + 2 < 2 ^ 60
+      → IsBoard f (log ++ entries.Take w ns ∷ []) cells (set posts w q) g' front closed starved room'
+  board_take w p q ns g' most room' take at more same short came enough few little =
+      let e : Entry = entries.Take w ns in
+      let may : MayFollow b log e = record { follows = take; own = tt } in
+      let here = post_at w p at in
+      let count = length-append log (e ∷ []) in
+      let change = coming_set posts w p q at in
+      let longer_held : length q.held.items ≡ length p.held.items + length ns = ap length more ∙ length-append p.held.items ns in
+      let stays = ap one_if_not same in
+      record {
+        limits = is.limits;
+        legal = legal_more maker (MayFollow b) log e is.legal may;
+        graph_is = came ∙ (ap (λ (x : TaskGraph). where_come x states.Out ns) is.graph_is ∙ sym (graph_named f.limits.workers log e refl));
+        cells_are = cells_same b log e is.legal may cells refl refl is.cells_are;
+        posts_are = posts_set f.limits.workers log e posts w q refl (record {
+          held_is = more ∙ (ap (λ l. l ++ ns) here.held_is ∙ sym (held_more w log e ∙ ap (λ x. cond x (held w log ++ ns) (held w log)) (eq-eqb w w refl)));
+          starved_is = same ∙ (here.starved_is ∙ sym (starved_same w log e refl));
+        }) is.posts_are;
+        front_is = front_same b log e is.legal may front refl (finishes_none log e refl) is.front_is;
+        closed_is = is.closed_is ∙ sym (same_any closes log e refl);
+        starved_is = is.starved_is ∙ sym (same_any (λ x. is_some_worker (hungry x)) log e refl);
+        within = omega (arith, count, change, longer_held, stays, short, one_bound closed, enough);
+        small = omega (arith, count, change, longer_held, stays, short, one_bound closed, few, little);
+      }
+
+  -- tasks that were taken are out
+  pub out_after : (ns : List ℕ) → MayTake log [] ns → list_all (is_number_out (where_come g states.Out ns).tasks) ns ≡ true
+  out_after ns take =
+      let e : Entry = entries.Take 0 ns in
+      let may : MayFollow b log e = record { follows = take; own = tt } in
+      let after : Legal b (log ++ e ∷ []) = legal_more maker (MayFollow b) log e is.legal may in
+      let same : where_come g states.Out ns ≡ graph_of f.limits.workers (log ++ e ∷ []) = ap (λ (x : TaskGraph). where_come x states.Out ns) is.graph_is ∙ sym (graph_named f.limits.workers log e refl) in
+      subst (λ (x : TaskGraph). list_all (is_number_out x.tasks) ns ≡ true) (sym same)
+      (all_among (is_number_out (tasks_of (log ++ e ∷ []))) ns (λ n mine. out_number b (log ++ e ∷ []) 0 n after
+      (subst (λ l. is_among l n ≡ true) (sym (held_more 0 log e)) (among_append (held 0 log) ns n ∙ or_right (is_among (held 0 log) n) (is_among ns n) mine))))

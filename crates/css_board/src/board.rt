@@ -16,14 +16,15 @@ ghost use Rattle.css_base.specs.declared.ending.Stop.{Stop as Cause};
 ghost use Rattle.css_yard.specs.Values.{IsValue, IsFirstStop};
 ghost use Rattle.css_history.specs.Seats.{IsFirst};
 ghost use Rattle.css_board.specs.Cells.{IsFoundMade};
-ghost use Rattle.css_board.specs.Boards.{graph, AreAllFinished};
+ghost use Rattle.css_board.specs.Boards.{graph, AreAllFinished, IfBundle, IfNothing};
 
 use crate::cell::{Cell, front_from, set_end, stop_of};
 use crate::lookup::{cell_at, value_of};
-use crate::post::{Post, coming, let_go, posts_of, replace_held, set_starved};
+use crate::post::{Post, coming, held_by, held_with, let_go, posts_of, replace_held, set_starved};
 use crate::producers::producers_of;
+use crate::taken::Taken;
 use css_base::{Buffer, Limits, Line, NoMemory, Stop};
-use css_graph::Graph;
+use css_graph::{Chosen, Graph};
 use css_history::{Entry, Fixed};
 use css_record::{TaskRecord, VersionName};
 use css_seen::{Lawful, Told};
@@ -139,6 +140,45 @@ impl Board {
             given: Items::new(given),
         });
         Ok(())
+    }
+
+    /// A worker takes the bundle of the graph, if a task may be taken: it then holds its tasks behind those that it held. `Nothing`
+    /// comes exactly where none may be taken. Neither it nor `NoMemory` changes anything.
+    pub fn take(&mut self, alloc: Global, worker: u32) -> Result<Taken, NoMemory>
+        requires worker { worker < self.old.fixed.limits.workers }
+        ensures fixed { self.new.fixed ≡ self.old.fixed }
+        ensures nothing { IfOk result (λ t. IfNothing t ((takeable (graph self.old).tasks ≡ []) × (self.new.history ≡ self.old.history))) }
+        ensures something { IfOk result (λ t. IfBundle t (takeable (graph self.old).tasks ≢ [])) }
+        ensures entered { IfOk result (λ t. IfBundle t (self.new.history ≡ self.old.history ++ entries.Take worker (bundle (graph self.old) self.old.fixed.limits.bundle) ∷ [])) }
+        ensures unchanged { OnErr result (self.new.history ≡ self.old.history) }
+    {
+        let most = self.fixed.limits.bundle;
+        let more = coming(&self.posts) + most as usize + 2;
+        if self.history.len() >= MOST_ENTRIES || more >= MOST_ENTRIES {
+            return Err(NoMemory);
+        }
+        self.history.reserve(more)?;
+        let Chosen::Bundle(numbers) = self.graph.choose_bundle(alloc, most)? else {
+            return Ok(Taken::Nothing);
+        };
+        let Ok(held) = held_with(alloc, &self.posts, worker, &numbers) else {
+            self.graph.back(&numbers);
+            return Err(NoMemory);
+        };
+        replace_held(&mut self.posts, worker, held);
+        self.history.push_reserved(Entry::Take {
+            worker,
+            numbers: Items::new(numbers),
+        });
+        Ok(Taken::Bundle)
+    }
+
+    /// What a worker holds, in the order in which it took it. Takes no memory.
+    pub fn held(&self, worker: u32) -> &[u64]
+        requires { worker < self.now.fixed.limits.workers }
+        ensures { result.now ≡ held worker self.now.history }
+    {
+        held_by(&self.posts, worker)
     }
 
     /// A worker has run a task that it holds, which made these: what its body makes by itself over the values of its inputs. Takes no

@@ -46,12 +46,14 @@ pub(crate) fn stop_of(history: &[Entry], cell: Cell) -> Option<(u64, Stop, Line)
     ensures none { IfNone result ((n : ℕ) (stop : Cause) (line : ℕ) → ¬ IsStopOf history.now cell n stop line) }
 {
     match end_of(history, cell) {
-        Some(Entry::Stop {
-            worker: _,
-            number,
-            stop,
-            line,
-        }) => Some((*number, *stop, *line)),
+        Some(
+            Entry::Stop {
+                worker: _,
+                number,
+                stop,
+                line,
+            },
+        ) => Some((*number, *stop, *line)),
         _ => None,
     }
 }

@@ -45,11 +45,13 @@ fn outs_in<'a>(history: &'a [Entry], cell: Cell) -> Option<&'a [Buffer]>
     ensures none { IfNone result (¬ IsFinishedCell history.now cell) }
 {
     match end_of(history, cell) {
-        Some(Entry::Finish {
-            worker: _,
-            number: _,
-            outs,
-        }) => Some(outs.as_slice()),
+        Some(
+            Entry::Finish {
+                worker: _,
+                number: _,
+                outs,
+            },
+        ) => Some(outs.as_slice()),
         _ => None,
     }
 }

@@ -55,6 +55,15 @@ fn entries_of(post: &Post) -> usize
     }
 }
 
+/// What a worker holds.
+pub(crate) fn held_by(posts: &[Post], worker: u32) -> &[u64]
+    requires { worker < length posts.now }
+    ensures { (p : Desk) × (slice_get posts.now worker ≡ Some p) × (result.now ≡ p.held.items) }
+{
+    let post = &posts[worker as usize];
+    post.held.as_slice()
+}
+
 /// What a worker holds, and these behind it.
 pub(crate) fn held_with(
     alloc: Global,

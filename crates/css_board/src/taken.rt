@@ -1,11 +1,10 @@
 //! What a worker gets that asks for tasks.
-use crate::job::Job;
 
 /// What a worker gets that asks for tasks.
-#[derive(Drop)]
+#[derive(Clone, Copy, PartialEq, Eq, Debug)]
 pub enum Taken {
-    /// Tasks that it now holds, in the order in which they are to run.
-    Bundle(Vec<Job>),
+    /// It now holds a bundle of tasks more.
+    Bundle,
     /// No task may be taken.
     Nothing,
 }
