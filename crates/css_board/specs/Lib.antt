@@ -3,3 +3,4 @@ pub mod Jobs
 pub mod Cells
 pub mod Posts
 pub mod Boards
+pub mod Lines

@@ -4,6 +4,7 @@
 mod board;
 mod cell;
 mod job;
+mod lines;
 mod lookup;
 mod post;
 mod producers;
