@@ -5,3 +5,4 @@ pub mod Fronts
 pub mod Posts
 pub mod Boards
 pub mod Bundles
+pub mod NamedLines

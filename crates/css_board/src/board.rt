@@ -1,5 +1,5 @@
 //! The board.
-ghost use Rattle.std.specs.Prelude.{◌≡◌, ◌≢◌, ◌<◌, ◌↔◌, ◌++◌, ◌∷◌, [], ℕ, true, false, Some, None, IfOk, IfErr, IfSome, IfNone, List, OnOk, OnErr, IsTrue};
+ghost use Rattle.std.specs.Prelude.{◌≡◌, ◌≢◌, ◌<◌, ◌↔◌, ◌++◌, ◌∷◌, [], ℕ, true, false, Some, None, IfOk, IfErr, IfSome, IfNone, List, length, map, OnOk, OnErr, IsTrue};
 ghost use Rattle.std.specs.Arc.{arc_value};
 ghost use Rattle.css_base.specs.Limits.{IsInRange};
 ghost use Rattle.css_vm.specs.Code.{code_of};
@@ -16,9 +16,11 @@ ghost use Rattle.css_base.specs.declared.ending.Stop.{Stop as Cause};
 ghost use Rattle.css_yard.specs.Values.{IsValue, IsFirstStop};
 ghost use Rattle.css_history.specs.Seats.{IsFirst};
 ghost use Rattle.css_board.specs.Cells.{IsFoundMade};
+ghost use Rattle.css_board.specs.Lines.{line_of};
 ghost use Rattle.css_board.specs.Boards.{graph, AreAllFinished, IfBundle, IfNothing};
 
 use crate::cell::{Cell, front_from, set_end, stop_of};
+use crate::lines::lines_of;
 use crate::lookup::{cell_at, value_of};
 use crate::post::{Post, coming, held_by, held_with, let_go, posts_of, replace_held, set_starved};
 use crate::producers::producers_of;
@@ -28,7 +30,7 @@ use css_graph::{Chosen, Graph};
 use css_history::{Entry, Fixed};
 use css_record::{TaskRecord, VersionName};
 use css_seen::{Lawful, Told};
-use css_traces::Items;
+use css_traces::{BoardLine, Items, Name};
 use css_vm::Code;
 use std::alloc::Global;
 use std::marker::Model;
@@ -281,6 +283,14 @@ impl Board {
         }
         let cell = cell_at(&self.cells, self.front);
         stop_of(&self.history, cell)
+    }
+
+    /// What a trace shows of the history's entries, in order, by the names of the code's functions.
+    pub fn lines(&self, alloc: Global, names: &[Name]) -> Result<Vec<BoardLine>, NoMemory>
+        requires { length names.now ≡ length (code_of (arc_value self.now.fixed.code)).functions }
+        ensures { IfOk result (λ v. v.items ≡ map (line_of names.now) self.now.history) }
+    {
+        lines_of(alloc, names, &self.history)
     }
 
     /// Whether each task is finished.
