@@ -14,7 +14,7 @@ use crate::slot::{Slot, first_free, free_slots, is_finished, is_free, take};
 use crate::staged::Staged;
 use arrayvec::ArrayVec;
 use css_base::{ChannelLine, NoMemory};
-use css_seen::Told;
+use css_seen::{Lawful, Told};
 use std::alloc::Global;
 use std::marker::Model;
 
@@ -83,6 +83,14 @@ impl Told for Channel {
 
     fn entries(&self) -> u64 {
         self.history.len() as u64
+    }
+}
+
+impl Lawful for Channel {
+    ghost legal = { λ _ history. ChannelLegal history };
+
+    fn is_legal(&self) {
+        self.legal();
     }
 }
 

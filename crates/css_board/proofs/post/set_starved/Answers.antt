@@ -1,0 +1,10 @@
+use Rattle.std.proofs.Common.{rules, refl, length, slice_get}
+use Rattle.std.proofs.lemmas.Option.{slice_get_read}
+use Rattle.css_board.proofs.post.set_starved.Goals as goal
+
+pub returns : goal.returns
+returns c = (
+  c.index_mut.result.now,
+  slice_get_read c.args.posts.now.items (length c.args.posts.now.items) c.args.worker c.index_mut.result.now refl c.requires c.index_mut.ensures.value,
+  refl,
+)

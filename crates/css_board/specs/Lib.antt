@@ -1,0 +1,6 @@
+pub mod Graphs
+pub mod Jobs
+pub mod Cells
+pub mod Posts
+pub mod Boards
+pub mod Lines

@@ -1,0 +1,15 @@
+//! The board of a generation: tasks that are submitted, taken in bundles by workers, and finished.
+#![tactic(auto)]
+
+mod board;
+mod cell;
+mod job;
+mod lines;
+mod lookup;
+mod post;
+mod producers;
+mod taken;
+
+pub use board::Board;
+pub use job::{Job, JobInput};
+pub use taken::Taken;
