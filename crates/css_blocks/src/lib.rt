@@ -1,0 +1,9 @@
+//! Structured code between a language and the machine's instructions: pieces, what they mean, and the instructions that they are laid
+//! out as. The definitions are in `specs/`.
+#![tactic(auto)]
+
+mod laws;
+mod part;
+
+pub use laws::{bodies_are_sound, code_has_the_dialogue};
+pub use part::{Part, Targets, Way};
