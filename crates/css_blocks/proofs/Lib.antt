@@ -1,1 +1,4 @@
-
+pub mod Runs
+pub mod Stands
+pub mod Pieces
+pub mod Programs

@@ -1,0 +1,169 @@
+-- The machine follows a call, and so a whole program of pieces.
+use Rattle.std.proofs.Common.{◌≡◌, ℕ, zero, suc, ◌+◌, ◌-◌, ◌≤◌, pos, Bool, true, false, List, [], ◌∷◌, ◌++◌, length, take, drop, reverse, map, Option, Some, None, refl, sym, ap, ◌∙◌, subst, arith}
+use Rattle.std.specs.Prelude.{slice_get, nat_le, if◌then◌else◌}
+use Rattle.css_base.specs.declared.ending.Stop.{Stop}
+use Rattle.css_semantics.specs.Dialogue as dialogue
+use Rattle.css_semantics.specs.Dialogue.{Tape, World, Outcome, Goes, Stops, Stopped, Tired, then_do, Mode, Plain, ask}
+use Rattle.css_isa.specs.declared.code.Op.TheVariants as ops
+use Rattle.css_isa.specs.declared.code.Instr.{Instr}
+use Rattle.css_isa.specs.Code.{Routine, Shape, Code, call_of}
+use Rattle.css_isa.specs.Steps as steps
+use Rattle.css_isa.specs.Steps.{Caller, State, Begin, At, Halt, Finished, Stuck, Step, on_function, entered, left, given_back, done}
+use Rattle.css_isa.specs.Machine.{exec}
+use Rattle.css_isa.specs.Runs.{Extends}
+use Rattle.css_isa.proofs.Growth.{extends_exec}
+use Rattle.css_blocks.specs.declared.part.Way.TheVariants.{Breaks, Continues}
+use Rattle.css_blocks.specs.Pieces.{both}
+use Rattle.css_blocks.specs.Meaning.{Exits, Falls, Jumps, Returns, Sticks, Calls, means}
+use Rattle.css_blocks.specs.Layout.{size, instr, lower, Function, Program, ended, routine_of, code_of}
+use Rattle.css_blocks.specs.Programs.{returned, applied, gone, called, behind_call, submitted_as, submitted, calls_of, begun, run_of}
+use Rattle.css_blocks.specs.Finds.{ground, Takes, IsTask, AreFound, Fit}
+use Rattle.css_blocks.specs.Correct.{SameDialogue, Behaves}
+use Rattle.css_blocks.proofs.Runs.{Runs, RunsTo, runs_done, runs_step, runs_less, runs_then, runs_asks}
+use Rattle.css_blocks.proofs.Stands.{HasAt, has_front, has_all, Running, activation_in, From, StepAt, one_step}
+use Rattle.css_blocks.proofs.Pieces.{has_next, Given, LeftTo, Lands, lands_at, CallsRun, submit_step, SubmitBy, piece_runs}
+
+abbrev routine_at : Option Function → Option Routine
+routine_at None = None
+routine_at (Some f) = Some (routine_of f)
+
+pub code_at : (fs : List Function) (k : ℕ) → slice_get (map routine_of fs) k ≡ routine_at (slice_get fs k)
+code_at [] k = refl
+code_at (f ∷ fs) zero = refl
+code_at (f ∷ fs) (suc k) = code_at fs k
+
+module _ (w : World) (p : Program) where
+  abbrev code : Code
+  code = code_of p
+
+  -- behind a function that is over, called as a task or not
+  abbrev Behind : List Caller → (frame : ℕ) → Bool → ℕ → Halt → Tape → Outcome Halt
+  Behind [] frame is_task k (Finished cell base line) t = Goes (Finished cell base line) t
+  Behind (c ∷ others) frame is_task k (Finished cell base line) t =
+      then_do (left w base frame is_task line t) (λ e t'. exec w code k (At c.activation others c.place (given_back is_task cell ∷ c.stack)) t')
+  Behind callers frame is_task k Stuck t = Goes Stuck t
+
+  left_is : (r : Running) (callers : List Caller) (cell line k : ℕ) (t : Tape) → LeftTo w code r callers cell line k t ≡ Behind callers r.routine.frame r.is_task k (Finished cell r.base line) t
+  left_is r [] cell line k t = refl
+  left_is r (c ∷ others) cell line k t = refl
+
+  stuck_is : (r : Running) (callers : List Caller) (k : ℕ) (t : Tape) → Goes Stuck t ≡ Behind callers r.routine.frame r.is_task k Stuck t
+  stuck_is r [] k t = refl
+  stuck_is r (c ∷ others) k t = refl
+
+  module _ (r : Running) (there : slice_get code.functions r.function ≡ Some r.routine) where
+    -- behind the pieces 0 is returned
+    zero_returned : (line end : ℕ) (mode : Mode) (stack : List ℕ) (t : Tape) → HasAt r.routine.body end (instr line (ops.Push (pos 0)) ∷ instr line ops.Ret ∷ []) → (k : ℕ)
+        → From w code r end mode stack t (suc (suc k)) ≡ Behind r.callers r.routine.frame r.is_task k (Finished 0 r.base line) t
+    zero_returned line end mode stack t has k =
+        one_step w code r there (instr line (ops.Push (pos 0))) end mode stack t has.0 (suc k)
+        ∙ one_step w code r there (instr line ops.Ret) (end + 1) mode (0 ∷ stack) t has.1.0 k
+        ∙ ap (λ f. done w (exec w code k) Goes (on_function f (λ f. steps.returning code (activation_in r mode) r.callers line (end + 1) r.callers f 0)) t) there
+        ∙ returns r.callers
+      where
+        returns : (callers : List Caller) → done w (exec w code k) Goes (steps.returning code (activation_in r mode) r.callers line (end + 1) callers r.routine 0) t ≡ Behind callers r.routine.frame r.is_task k (Finished 0 r.base line) t
+        returns [] = refl
+        returns (c ∷ others) = refl
+
+    end_moves : (line end : ℕ) → HasAt r.routine.body end (instr line (ops.Push (pos 0)) ∷ instr line ops.Ret ∷ []) → (e : Exits) (t : Tape) (k : ℕ)
+        → (j : ℕ) × (k ≤ j) × (Lands w code r end (both end) j e t ≡ Behind r.callers r.routine.frame r.is_task k (returned line r.base e) t)
+    end_moves line end has (Falls mode stack) t k = (suc (suc k), omega arith, zero_returned line end mode stack t has k)
+    end_moves line end has (Jumps Breaks mode stack) t k = (suc (suc k), omega arith, zero_returned line end mode stack t has k)
+    end_moves line end has (Jumps Continues mode stack) t k = (suc (suc k), omega arith, zero_returned line end mode stack t has k)
+    end_moves line end has (Returns cell l) t k = (k, omega arith, left_is r r.callers cell l k t)
+    end_moves line end has Sticks t k = (k, omega arith, stuck_is r r.callers k t)
+
+  abbrev running : ℕ → Function → Bool → List Caller → ℕ → Running
+  running k f is_task callers base = record { function = k; routine = routine_of f; base = base; is_task = is_task; callers = callers }
+
+  abbrev FollowsCalls : ℕ → Calls → Type 0
+  FollowsCalls n calls = (r : Running) → slice_get code.functions r.function ≡ Some r.routine → CallsRun w code calls n r
+
+  applied_runs : (n : ℕ) (calls : Calls) → FollowsCalls n calls → (k : ℕ) (f : Function) → slice_get code.functions k ≡ Some (routine_of f) → AreFound code f.body
+      → (is_task : Bool) (callers : List Caller) (arguments : List ℕ) (line : ℕ) (t : Tape)
+      → Runs n (λ j. steps.entering w (exec w code j) Goes k (routine_of f) is_task arguments line callers t) (Behind callers f.frame is_task) (applied w calls n f arguments line t)
+  applied_runs n calls follows k f there found is_task callers arguments line t =
+      runs_then (runs_asks (entered w (routine_of f) arguments line t) (λ j. refl)) (λ base t'. inside base t')
+    where
+      inside : (base : ℕ) (t : Tape) → Runs n (λ j. exec w code j (steps.inside k is_task callers base) t) (Behind callers f.frame is_task) (then_do (means w calls n base f.body Plain [] t) (λ e t'. Goes (returned f.end base e) t'))
+      inside base t =
+          let r = running k f is_task callers base in
+          let ts = both (size f.body) in
+          let has : HasAt (ended f.body f.end) 0 (ended f.body f.end) = has_all (ended f.body f.end) [] in
+          let here : 0 + size f.body ≡ size f.body = omega arith in
+          let ran = piece_runs w code calls n r there (follows r there) f.body (both ground) ground found.finds 0 ts Plain [] t (has_front (ended f.body f.end) 0 (lower f.body 0 ts) _ has) in
+          let last = subst (λ m. HasAt (ended f.body f.end) m (instr f.end (ops.Push (pos 0)) ∷ instr f.end ops.Ret ∷ [])) here (has_next (ended f.body f.end) f.body 0 ts _ has) in
+          runs_then (lands_at w code r _ (size f.body) here ran) (λ e t'. record { by = end_moves r there f.end (size f.body) last e t' })
+
+  module _ (fit : Fit p) where
+    -- behind a function, its caller goes on
+    gone_runs : (n : ℕ) (r : Running) (frame : ℕ) (is_task : Bool) (place : ℕ) (mode : Mode) (rest : List ℕ) (h : Halt) (t : Tape)
+        → Runs n (λ k. Behind (record { activation = activation_in r mode; place = place; stack = rest } ∷ r.callers) frame is_task k h t) (Given w code r place mode rest) (gone w frame is_task h t)
+    gone_runs n r frame is_task place mode rest (Finished cell base line) t =
+        runs_then (runs_asks (left w base frame is_task line t) (λ k. refl)) (λ e t'. runs_done n (Given w code r place mode rest) (Some (given_back is_task cell)) t')
+    gone_runs n r frame is_task place mode rest Stuck t = runs_done n (Given w code r place mode rest) None t
+
+    called_runs : (n : ℕ) (calls : Calls) → FollowsCalls n calls → (r : Running) (f place : ℕ) (mode : Mode) (rest : List ℕ) (g : Routine) (o : Option Function) → slice_get p.functions f ≡ o → slice_get code.functions f ≡ Some g
+        → (arguments : List ℕ) (line : ℕ) (t : Tape)
+        → Runs n (λ k. steps.entering w (exec w code k) Goes f g false arguments line (record { activation = activation_in r mode; place = place; stack = rest } ∷ r.callers) t) (Given w code r place mode rest) (called w calls n o arguments line t)
+    called_runs n calls follows r f place mode rest g None at there arguments line t =
+        let none : slice_get code.functions f ≡ None = code_at p.functions f ∙ ap routine_at at in absurd cc
+    called_runs n calls follows r f place mode rest g (Some f') at there arguments line t =
+        let there' : slice_get code.functions f ≡ Some (routine_of f') = code_at p.functions f ∙ ap routine_at at in
+        let same : routine_of f' ≡ g = cc in
+        let cs : List Caller = record { activation = activation_in r mode; place = place; stack = rest } ∷ r.callers in
+        subst (λ g. Runs n (λ k. steps.entering w (exec w code k) Goes f g false arguments line cs t) (Given w code r place mode rest) (called w calls n (Some f') arguments line t)) same
+        (runs_then (applied_runs n calls follows f f' there' (fit f f' at) false cs arguments line t) (gone_runs n r f'.frame false place mode rest))
+
+    -- behind the call of a task, by the world's reply
+    behind_runs : (n : ℕ) (calls : Calls) → FollowsCalls n calls → (r : Running) (f place : ℕ) (mode : Mode) (rest : List ℕ) (f' : Function) → slice_get p.functions f ≡ Some f' → slice_get code.functions f ≡ Some (routine_of f')
+        → (arguments : List ℕ) (line reply : ℕ) (t : Tape)
+        → Runs n (λ k. steps.behind_call w (exec w code k) Goes reply f (routine_of f') arguments line (record { activation = activation_in r mode; place = place; stack = rest } ∷ r.callers) (At (activation_in r mode) r.callers place (0 ∷ rest)) t)
+        (Given w code r place mode rest) (behind_call w calls n f' arguments line reply t)
+    behind_runs n calls follows r f place mode rest f' at there arguments line zero t =
+        runs_then (runs_asks (ask w dialogue.Returns line t) (λ k. refl)) (λ e t'. runs_done n (Given w code r place mode rest) (Some 0) t')
+    behind_runs n calls follows r f place mode rest f' at there arguments line (suc reply) t =
+        let cs : List Caller = record { activation = activation_in r mode; place = place; stack = rest } ∷ r.callers in
+        runs_then (applied_runs n calls follows f f' there (fit f f' at) true cs arguments line t) (gone_runs n r f'.frame true place mode rest)
+
+    submitted_runs : (n : ℕ) (calls : Calls) → FollowsCalls n calls → (r : Running) (f place : ℕ) (mode : Mode) (rest : List ℕ) (g : Routine) (s : Shape) (o : Option Function) → slice_get p.functions f ≡ o → slice_get code.functions f ≡ Some g → g.task ≡ Some s
+        → (arguments dimensions : List ℕ) (line : ℕ) (t : Tape)
+        → Runs n (λ k. done w (exec w code k) Goes (steps.Submits (call_of f g s arguments dimensions r.base) f g arguments line (record { activation = activation_in r mode; place = place; stack = rest } ∷ r.callers) (At (activation_in r mode) r.callers place (0 ∷ rest))) t)
+        (Given w code r place mode rest) (submitted w calls n f o arguments dimensions r.base line t)
+    submitted_runs n calls follows r f place mode rest g s None at there task arguments dimensions line t =
+        let none : slice_get code.functions f ≡ None = code_at p.functions f ∙ ap routine_at at in absurd cc
+    submitted_runs n calls follows r f place mode rest g s (Some f') at there task arguments dimensions line t =
+        let there' : slice_get code.functions f ≡ Some (routine_of f') = code_at p.functions f ∙ ap routine_at at in
+        let same : routine_of f' ≡ g = cc in
+        let is : f'.task ≡ Some s = ap (λ g. g.task) same ∙ task in
+        let cs : List Caller = record { activation = activation_in r mode; place = place; stack = rest } ∷ r.callers in
+        subst (λ g. Runs n (λ k. done w (exec w code k) Goes (steps.Submits (call_of f g s arguments dimensions r.base) f g arguments line cs (At (activation_in r mode) r.callers place (0 ∷ rest))) t) (Given w code r place mode rest) (submitted w calls n f (Some f') arguments dimensions r.base line t)) same
+        (subst (λ x. Runs n (λ k. done w (exec w code k) Goes (steps.Submits (call_of f (routine_of f') s arguments dimensions r.base) f (routine_of f') arguments line cs (At (activation_in r mode) r.callers place (0 ∷ rest))) t) (Given w code r place mode rest) (submitted_as w calls n f f' x arguments dimensions r.base line t)) (sym is)
+        (runs_then (runs_asks (ask w (dialogue.Calls (call_of f (routine_of f') s arguments dimensions r.base)) line t) (λ k. refl))
+        (λ reply t'. behind_runs n calls follows r f place mode rest f' at there' arguments line reply t')))
+
+    pub calls_run : (n : ℕ) → FollowsCalls n (calls_of w p.functions n)
+    calls_run zero r there = record {
+      call = λ line f count place mode stack t takes enough has. record { by = (0, omega arith, refl) };
+      submit = λ line f count dims place mode stack t task has_dims has_args has. record { by = (0, omega arith, refl) };
+    }
+    calls_run (suc n) r there = record {
+      call = λ line f count place mode stack t takes enough has.
+          let cs : List Caller = record { activation = activation_in r mode; place = place + 1; stack = drop count stack } ∷ r.callers in
+          runs_step (λ k. steps.entering w (exec w code k) Goes f takes.0 false (reverse (take count stack)) line cs t)
+          (λ k. one_step w code r there (instr line (ops.Call f)) place mode stack t has k
+          ∙ ap (λ x. done w (exec w code k) Goes (on_function x (λ g. steps.on_many (length g.parameters) stack (λ arguments rest. steps.Enters f g false arguments line (steps.waiting code (activation_in r mode) r.callers line place rest ∷ r.callers)))) t) takes.1
+          ∙ ap (λ c. done w (exec w code k) Goes (steps.on_many c stack (λ arguments rest. steps.Enters f takes.0 false arguments line (steps.waiting code (activation_in r mode) r.callers line place rest ∷ r.callers))) t) takes.2
+          ∙ ap (λ b. done w (exec w code k) Goes (if b then steps.Enters f takes.0 false (reverse (take count stack)) line cs else steps.Halts Stuck) t) enough)
+          (called_runs n (calls_of w p.functions n) (calls_run n) r f (place + 1) mode (drop count stack) takes.0 (slice_get p.functions f) refl takes.1 (reverse (take count stack)) line t);
+      submit = λ line f count dims place mode stack t task has_dims has_args has.
+          let under = drop dims stack in
+          let cs : List Caller = record { activation = activation_in r mode; place = place + 1; stack = drop count under } ∷ r.callers in
+          let next : State = At (activation_in r mode) r.callers (place + 1) (0 ∷ drop count under) in
+          runs_step (λ k. done w (exec w code k) Goes (steps.Submits (call_of f task.0 task.1 (reverse (take count under)) (reverse (take dims stack)) r.base) f task.0 (reverse (take count under)) line cs next) t)
+          (λ k. one_step w code r there (instr line (ops.Submit f)) place mode stack t has k
+          ∙ ap (λ s. done w (exec w code k) Goes s t) (submit_step w code r there line f count dims place mode stack task
+          ∙ ap (λ b. SubmitBy w code r there b (nat_le count (length under)) line f place mode task.0 task.1 dims count stack) has_dims
+          ∙ ap (λ c. SubmitBy w code r there true c line f place mode task.0 task.1 dims count stack) has_args))
+          (submitted_runs n (calls_of w p.functions n) (calls_run n) r f (place + 1) mode (drop count under) task.0 task.1 (slice_get p.functions f) refl task.2 task.4 (reverse (take count under)) (reverse (take dims stack)) line t);
+    }
