@@ -19,7 +19,7 @@ use Rattle.css_blocks.specs.Layout.{size, instr, lower, Function, Program, ended
 use Rattle.css_blocks.specs.Programs.{returned, applied, gone, called, behind_call, submitted_as, submitted, calls_of, begun, run_of}
 use Rattle.css_blocks.specs.Finds.{ground, Takes, IsTask, AreFound, Fit}
 use Rattle.css_blocks.specs.Correct.{SameDialogue, Behaves}
-use Rattle.css_blocks.proofs.Runs.{Runs, RunsTo, runs_done, runs_step, runs_less, runs_then, runs_asks}
+use Rattle.css_blocks.proofs.Runs.{Runs, RunsTo, runs_done, runs_step, runs_less, runs_then, runs_moves, runs_asks}
 use Rattle.css_blocks.proofs.Stands.{HasAt, has_front, has_all, Running, activation_in, From, StepAt, one_step}
 use Rattle.css_blocks.proofs.Pieces.{has_next, Given, LeftTo, Lands, lands_at, CallsRun, submit_step, SubmitBy, piece_runs}
 
@@ -167,3 +167,66 @@ module _ (w : World) (p : Program) where
           ∙ ap (λ c. SubmitBy w code r there true c line f place mode task.0 task.1 dims count stack) has_args))
           (submitted_runs n (calls_of w p.functions n) (calls_run n) r f (place + 1) mode (drop count under) task.0 task.1 (slice_get p.functions f) refl task.2 task.4 (reverse (take count under)) (reverse (take dims stack)) line t);
     }
+
+    -- a function from its entry on
+    pub begun_runs : (n k : ℕ) (o : Option Function) → slice_get p.functions k ≡ o → (arguments : List ℕ) (line : ℕ) (t : Tape)
+        → Runs n (λ j. exec w code j (Begin k arguments line) t) (λ j h t'. Goes h t') (begun w p.functions n o arguments line t)
+    begun_runs n k None at arguments line t =
+        let none : slice_get code.functions k ≡ None = code_at p.functions k ∙ ap routine_at at in
+        runs_less (runs_step (λ j. Goes Stuck t) (λ j. ap (λ x. done w (exec w code j) Goes (on_function x (λ f. steps.Enters k f false arguments line [])) t) none) (runs_done n (λ j h t'. Goes h t') Stuck t))
+    begun_runs n k (Some f) at arguments line t =
+        let there : slice_get code.functions k ≡ Some (routine_of f) = code_at p.functions k ∙ ap routine_at at in
+        runs_less (runs_step (λ j. steps.entering w (exec w code j) Goes k (routine_of f) false arguments line [] t)
+        (λ j. ap (λ x. done w (exec w code j) Goes (on_function x (λ f. steps.Enters k f false arguments line [])) t) there)
+        (runs_moves (Behind [] f.frame false) ends (applied_runs n (calls_of w p.functions n) (calls_run n) k f there (fit k f at) false [] arguments line t)))
+      where
+        ends : (h : Halt) (t : Tape) (j : ℕ) → (i : ℕ) × (j ≤ i) × (Behind [] f.frame false i h t ≡ Goes h t)
+        ends (Finished cell base l) t j = (j, omega arith, refl)
+        ends Stuck t j = (j, omega arith, refl)
+
+-- ---- both ways
+
+-- a run that is over
+abbrev IsOver : {A : Type 0} → Outcome A → Type 0
+IsOver (Goes a t) = Unit {0}
+IsOver (Stops (Stopped stop line) t) = Unit {0}
+IsOver (Stops Tired t) = ⊥
+
+over_stays : {A : Type 0} (o q : Outcome A) → IsOver o → Extends o q → q ≡ o
+over_stays (Goes a t) q over e = e
+over_stays (Stops (Stopped stop line) t) q over e = e
+over_stays (Stops Tired t) q over e = absurd over
+
+-- a machine that follows a dialogue as far as its fuel reaches
+module _ (from to : ℕ → Outcome Halt) (longer : (n m : ℕ) → Extends (to n) (to (n + m))) (follows : (n : ℕ) → Runs n to (λ k h t. Goes h t) (from n)) where
+  reached : (n : ℕ) (o : Outcome Halt) → RunsTo n to (λ k h t. Goes h t) o → (j : ℕ) × (n ≤ j) × (to j ≡ o)
+  reached n (Goes h t) ran = ran n
+  reached n (Stops why t) ran = ran
+
+  over_too : (n : ℕ) (o : Outcome Halt) → IsOver o → to n ≡ o → from n ≡ o
+  over_too n o over e =
+      let there = reached n (from n) (follows n).by in
+      let m : n + (there.0 - n) ≡ there.0 = omega (arith, there.1) in
+      let stays : to (n + (there.0 - n)) ≡ to n = over_stays (to n) (to (n + (there.0 - n))) (subst IsOver (sym e) over) (longer n (there.0 - n)) in
+      sym there.2 ∙ sym (ap to m) ∙ stays ∙ e
+
+  abbrev Reached : ℕ → Outcome Halt → Type 0
+  Reached n o = (j : ℕ) × (n ≤ j) × (to j ≡ o)
+
+  reaches : (n : ℕ) (o : Outcome Halt) → from n ≡ o → Reached n o
+  reaches n o e = subst (Reached n) e (reached n (from n) (follows n).by)
+
+  pub same_dialogue : SameDialogue from to
+  same_dialogue = record {
+    ends = λ n a t e. let there = reaches n (Goes a t) e in (there.0, there.2);
+    stops = λ n stop line t e. let there = reaches n (Stops (Stopped stop line) t) e in (there.0, there.2);
+    goes_on = λ n t e. reaches n (Stops Tired t) e;
+    ends_only = λ n a t e. (n, over_too n (Goes a t) tt e);
+    stops_only = λ n stop line t e. (n, over_too n (Stops (Stopped stop line) t) tt e);
+  }
+
+pub behaves : (p : Program) → Fit p → Behaves p (code_of p)
+behaves p fit = record {
+  each = λ w k arguments line t. same_dialogue (run_of w p k arguments line t) (λ n. exec w (code_of p) n (Begin k arguments line) t)
+      (λ n m. extends_exec w (code_of p) n m (Begin k arguments line) t) (λ n. begun_runs w p fit n k (slice_get p.functions k) refl arguments line t);
+}
