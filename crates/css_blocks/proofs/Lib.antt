@@ -2,3 +2,4 @@ pub mod Runs
 pub mod Stands
 pub mod Pieces
 pub mod Programs
+pub mod Plans
