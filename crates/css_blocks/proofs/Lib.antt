@@ -3,3 +3,4 @@ pub mod Stands
 pub mod Pieces
 pub mod Programs
 pub mod Plans
+pub mod Parts

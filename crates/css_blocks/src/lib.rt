@@ -2,8 +2,12 @@
 //! out as. The definitions are in `specs/`.
 #![tactic(auto)]
 
+mod build;
 mod laws;
+mod lowering;
 mod part;
 
+pub use build::{add, caught, choice, looped, row, when};
 pub use laws::{bodies_are_sound, code_has_the_dialogue};
+pub use lowering::{body_of, lower, size_of};
 pub use part::{Part, Targets, Way};
