@@ -1,9 +1,10 @@
 use Rattle.std.proofs.Common.{rules, ◌≡◌, ◌++◌, ◌+◌, length, ap, sym, ◌∙◌, subst, arith}
 use Rattle.std.proofs.lemmas.Result.{on_ok_weaker}
 use Rattle.css_blocks.specs.declared.part.Part.{the_lemmas}
-use Rattle.css_blocks.specs.Pieces.{Choice, Loop, size, lower}
-use Rattle.css_blocks.specs.Parts.{shape, IsSized}
-use Rattle.css_blocks.proofs.Parts.{item_sized, one_more_lowered, row_lowered, choice_lowered, loop_lowered}
+use Rattle.css_blocks.specs.Pieces.{Choice, When, Loop, Catch}
+use Rattle.css_blocks.specs.Layout.{size, lower}
+use Rattle.css_blocks.specs.Parts.{shape, IsSized, ways_of}
+use Rattle.css_blocks.proofs.Parts.{item_sized, one_more_lowered, row_lowered, choice_lowered, when_lowered, loop_lowered, catch_lowered}
 use Rattle.css_blocks.proofs.lowering.+lower.Goals as goal
 
 pub lower-requires : goal.lower-requires
@@ -12,36 +13,31 @@ lower-requires t c =
 
 pub loop-part-preserved : goal.loop-part-preserved
 loop-part-preserved t c =
-    one_more_lowered _ _ _ c.args.targets c.deref-part-items.result.now c.loop-part.part-index c.part-item.result (omega arith) c.part-item.is c.loop-part.invariant c.in_ok-lower-in-Row.ensures
+    one_more_lowered _ _ _ (ways_of c.args.targets) c.deref-part-items.result.now c.loop-part.part-index c.part-item.result (omega arith) c.part-item.is c.loop-part.invariant c.in_ok-lower-in-Row.ensures
 
 pub returns-after-loop-part : goal.returns-after-loop-part
 returns-after-loop-part t c =
-    row_lowered _ _ c.args.targets _ _ c.in-Row.parts c.loop-part-test.false c.deref-part-items.ensures.value c.loop-part.invariant
-    ∙ ap (λ p. c.args.code.now.items ++ lower (shape p) (length c.args.code.now.items) c.args.targets) (sym c.in-Row.is)
+    row_lowered _ _ (ways_of c.args.targets) _ _ c.in-Row.parts c.loop-part-test.false c.deref-part-items.ensures.value c.loop-part.invariant
+    ∙ ap (λ p. c.args.code.now.items ++ lower (shape p) (length c.args.code.now.items) (ways_of c.args.targets)) (sym c.in-Row.is)
 
 pub returns-in_ok-put-in-Choice-2 : goal.returns-in_ok-put-in-Choice-2
 returns-in_ok-put-in-Choice-2 t c =
     let sized = subst IsSized c.in-Choice.is c.requires in
+    let ts = ways_of c.args.targets in
     let same_a = ap (λ p. size (shape p)) c.deref.ensures in
     let same_b = ap (λ p. size (shape p)) c.deref-in-Choice.ensures in
-    on_ok_weaker c.lower-in-Choice-2.result (λ e. choice_lowered _ _ _ _ _ (shape c.deref.result.now) (shape c.deref-in-Choice.result.now) c.args.targets _ _ (omega (arith, c.in_ok-second-in-Choice.ensures, c.len.ensures, c.args.code.now.ok.0, sized.0, same_a)) (omega (arith, c.in_ok-end-in-Choice.ensures, sized.2, same_b)) c.in_ok-put-in-Choice.ensures c.in_ok-lower-in-Choice.ensures c.in_ok-put-in-Choice-2.ensures e
-    ∙ ap (λ x. c.args.code.now.items ++ lower (Choice (shape x) (shape c.deref-in-Choice.result.now)) (length c.args.code.now.items) c.args.targets) c.deref.ensures
-    ∙ ap (λ x. c.args.code.now.items ++ lower (Choice (shape c.in-Choice.yes.value) (shape x)) (length c.args.code.now.items) c.args.targets) c.deref-in-Choice.ensures
-    ∙ ap (λ p. c.args.code.now.items ++ lower (shape p) (length c.args.code.now.items) c.args.targets) (sym c.in-Choice.is)) c.lower-in-Choice-2.ensures
+    on_ok_weaker c.lower-in-Choice-2.result (λ e. choice_lowered _ _ _ _ _ (shape c.deref.result.now) (shape c.deref-in-Choice.result.now) ts c.in-Choice.line _ _
+    (omega (arith, c.in_ok-place-in-Choice.ensures, c.in_ok-sum-in-Choice.ensures, c.in_ok-second-in-Choice.ensures, sized.0, same_a)) (omega (arith, c.in_ok-end-in-Choice.ensures, sized.2, same_b))
+    c.in_ok-put-in-Choice.ensures c.in_ok-lower-in-Choice.ensures c.in_ok-put-in-Choice-2.ensures e
+    ∙ ap (λ x. c.args.code.now.items ++ lower (Choice c.in-Choice.line (shape x) (shape c.deref-in-Choice.result.now)) (length c.args.code.now.items) ts) c.deref.ensures
+    ∙ ap (λ x. c.args.code.now.items ++ lower (Choice c.in-Choice.line (shape c.in-Choice.yes.value) (shape x)) (length c.args.code.now.items) ts) c.deref-in-Choice.ensures
+    ∙ ap (λ p. c.args.code.now.items ++ lower (shape p) (length c.args.code.now.items) ts) (sym c.in-Choice.is)) c.lower-in-Choice-2.ensures
 
-pub returns-in_ok-lower-in-Loop-3 : goal.returns-in_ok-lower-in-Loop-3
-returns-in_ok-lower-in-Loop-3 t c =
-    let sized = subst IsSized c.in-Loop.is c.requires in
-    let same_a = ap (λ p. size (shape p)) c.deref-in-Loop.ensures in
-    let same_b = ap (λ p. size (shape p)) c.deref-in-Loop-2.ensures in
-    let same_c = ap (λ p. size (shape p)) c.deref-in-Loop-3.ensures in
-    let here = c.len-start.ensures ∙ c.args.code.now.ok.0 in
-    let at_step : c.in_ok-at_step-in-Loop.at_step ≡ c.len-start.result + 2 + size (shape c.deref-in-Loop.result.now) + size (shape c.deref-in-Loop-2.result.now) =
-    omega (arith, c.in_ok-sum-in-Loop.ensures, c.in_ok-at_step-in-Loop.ensures, sized.0, sized.2, same_a, same_b) in
-    let at_end : c.in_ok-end-in-Loop.end ≡ c.in_ok-at_step-in-Loop.at_step + size (shape c.deref-in-Loop-3.result.now) + 1 =
-    omega (arith, c.in_ok-sum-in-Loop-2.ensures, c.in_ok-end-in-Loop.ensures, sized.4, same_c) in
-    on_ok_weaker c.put-in-Loop-3.result (λ e. loop_lowered _ _ _ _ _ _ _ (shape c.deref-in-Loop.result.now) (shape c.deref-in-Loop-2.result.now) (shape c.deref-in-Loop-3.result.now) c.args.targets c.len-start.result _ _ here at_step at_end c.in_ok-lower-in-Loop.ensures c.in_ok-put-in-Loop.ensures c.in_ok-put-in-Loop-2.ensures c.in_ok-lower-in-Loop-2.ensures c.in_ok-lower-in-Loop-3.ensures e
-    ∙ ap (λ x. c.args.code.now.items ++ lower (Loop (shape x) (shape c.deref-in-Loop-2.result.now) (shape c.deref-in-Loop-3.result.now)) (length c.args.code.now.items) c.args.targets) c.deref-in-Loop.ensures
-    ∙ ap (λ x. c.args.code.now.items ++ lower (Loop (shape c.in-Loop.test.value) (shape x) (shape c.deref-in-Loop-3.result.now)) (length c.args.code.now.items) c.args.targets) c.deref-in-Loop-2.ensures
-    ∙ ap (λ x. c.args.code.now.items ++ lower (Loop (shape c.in-Loop.test.value) (shape c.in-Loop.body.value) (shape x)) (length c.args.code.now.items) c.args.targets) c.deref-in-Loop-3.ensures
-    ∙ ap (λ p. c.args.code.now.items ++ lower (shape p) (length c.args.code.now.items) c.args.targets) (sym c.in-Loop.is)) c.put-in-Loop-3.ensures
+pub returns-in_ok-lower-in-Loop-2 : goal.returns-in_ok-lower-in-Loop-2
+returns-in_ok-lower-in-Loop-2 t c =
+    let ts = ways_of c.args.targets in
+    on_ok_weaker c.put-in-Loop-2.result (λ e. loop_lowered _ _ _ _ _ (shape c.deref-in-Loop.result.now) (shape c.deref-in-Loop-2.result.now) ts c.in-Loop.line _ c.in_ok-start-in-Loop.ensures
+    c.in_ok-lower-in-Loop.ensures c.in_ok-put-in-Loop.ensures c.in_ok-lower-in-Loop-2.ensures e
+    ∙ ap (λ x. c.args.code.now.items ++ lower (Loop c.in-Loop.line (shape x) (shape c.deref-in-Loop-2.result.now)) (length c.args.code.now.items) ts) c.deref-in-Loop.ensures
+    ∙ ap (λ x. c.args.code.now.items ++ lower (Loop c.in-Loop.line (shape c.in-Loop.first.value) (shape x)) (length c.args.code.now.items) ts) c.deref-in-Loop-2.ensures
+    ∙ ap (λ p. c.args.code.now.items ++ lower (shape p) (length c.args.code.now.items) ts) (sym c.in-Loop.is)) c.put-in-Loop-2.ensures
