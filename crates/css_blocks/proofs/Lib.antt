@@ -4,3 +4,4 @@ pub mod Pieces
 pub mod Programs
 pub mod Plans
 pub mod Parts
+pub mod Worked

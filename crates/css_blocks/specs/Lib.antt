@@ -5,3 +5,4 @@ pub mod Programs
 pub mod Finds
 pub mod Correct
 pub mod Parts
+pub mod Samples

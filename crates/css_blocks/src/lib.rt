@@ -6,8 +6,10 @@ mod build;
 mod laws;
 mod lowering;
 mod part;
+mod samples;
 
 pub use build::{add, caught, choice, looped, row, when};
 pub use laws::{bodies_are_sound, code_has_the_dialogue};
 pub use lowering::{body_of, lower, size_of};
 pub use part::{Part, Targets, Way};
+pub use samples::{a_call, a_choice, a_loop, a_tasks_call};
