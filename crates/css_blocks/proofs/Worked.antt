@@ -4,20 +4,26 @@ use Rattle.std.specs.Prelude.{nat_eq, slice_get, if◌then◌else◌}
 use Rattle.css_base.specs.declared.ending.FaultKind.{FaultKind}
 use Rattle.css_base.specs.declared.ending.Stop.{Stop}
 use Rattle.css_semantics.specs.Dialogue.{World, Tape, Item, Reply, Says, Fails, Refuses, Outcome, Goes, Stops, Stopped, Tired, then_do, Plain, ask, at_fault}
-use Rattle.css_isa.specs.Steps.{Halt, Finished, Begin}
+use Rattle.css_isa.specs.Steps.{Halt, Finished, Begin, entered}
 use Rattle.css_isa.specs.Machine.{exec}
-use Rattle.css_blocks.specs.Pieces.{row}
-use Rattle.css_blocks.specs.Meaning.{Exits, Falls, means, rounds}
-use Rattle.css_blocks.specs.Layout.{Function, Program, code_of}
-use Rattle.css_blocks.specs.Programs.{run_of, calls_of}
+use Rattle.css_isa.specs.declared.code.Op.TheVariants as ops
+use Rattle.css_blocks.specs.declared.part.Way.TheVariants.{Breaks, Continues}
+use Rattle.css_blocks.specs.Pieces.{Skip, Then, Do, Catch, Unless, row}
+use Rattle.css_blocks.specs.Meaning.{Calls, Jumps, on_fall, caught, means, rounds}
+use Rattle.css_blocks.specs.Layout.{Function, Program, routine_of, code_of}
+use Rattle.css_blocks.specs.Programs.{returned, run_of, calls_of}
 use Rattle.css_blocks.specs.Finds.{AreFound, Fit}
 use Rattle.css_blocks.specs.Correct.{SameDialogue, Behaves}
-use Rattle.css_blocks.specs.Samples.{choosing, choosing_by_hand, looping, turns_by_hand, looping_by_hand, calling, calling_by_hand, submitting, submitting_by_hand}
+use Rattle.css_blocks.specs.Samples.{choosing, choosing_by_hand, looping_body, looping_step, looping_function, looping, turns_by_hand, looping_by_hand, next, calling, calling_by_hand, task, submitting, submitting_by_hand}
 use Rattle.css_blocks.proofs.Programs.{behaves}
 
 pub then_assoc : {A B C : Type 0} (o : Outcome A) (f : A → Tape → Outcome B) (g : B → Tape → Outcome C) → then_do (then_do o f) g ≡ then_do o (λ a t. then_do (f a t) g)
 then_assoc (Goes a t) f g = refl
 then_assoc (Stops why t) f g = refl
+
+pub then_same : {A B : Type 0} (o : Outcome A) {f g : A → Tape → Outcome B} → ((a : A) (t : Tape) → f a t ≡ g a t) → then_do o f ≡ then_do o g
+then_same (Goes a t) e = e a t
+then_same (Stops why t) e = refl
 
 pub if_then : {A B : Type 0} (b : Bool) (x y : Outcome A) (f : A → Tape → Outcome B) → then_do (if b then x else y) f ≡ (if b then then_do x f else then_do y f)
 if_then true x y f = refl
@@ -55,3 +61,100 @@ choosing_means w line tape n = simp (then_assoc, if_then)
 
 pub choosing_code : (w : World) (line : ℕ) (tape : Tape) → SameDialogue (choosing_by_hand w line tape) (λ n. exec w (code_of choosing) n (Begin 0 [] line) tape)
 choosing_code w line tape = same_as (choosing_means w line tape) ((behaves choosing choosing_fits).each w 0 [] line tape)
+
+-- ---- a loop
+
+looping_fits : Fit looping
+looping_fits zero f at =
+    let found : AreFound (code_of looping) _ = record {
+      finds = (
+        (
+          (((refl, omega arith, tt), tt), (omega arith, refl)),
+          (
+            ((refl, omega arith, tt), ((omega arith, refl, refl), ((refl, omega arith, tt), ((omega arith, refl, refl), tt)))),
+            ((refl, omega arith, tt), ((refl, omega arith, tt), ((refl, omega arith, tt), tt))),
+          ),
+          refl,
+        ),
+        tt,
+      );
+      ends = refl;
+    } in
+    subst (λ g. AreFound (code_of looping) g.body) (some_same at) found
+looping_fits (suc k) f at = cc
+
+module _ (w : World) (calls : Calls) (m base : ℕ) where
+  rounds_by_hand : (n : ℕ) (t : Tape) → rounds w 2 n (means w calls m base (Then (row (Do 2 ops.In ∷ [])) (Unless 2 Breaks))) (means w calls m base (Then (Catch Continues looping_body) looping_step)) Plain [] t ≡ then_do (turns_by_hand w n t) (λ r t'. Goes (Jumps Breaks Plain []) t')
+  rounds_by_hand zero t = refl
+  rounds_by_hand (suc n) t = simp (then_assoc, if_then, rounds_by_hand n)
+
+looping_means : (w : World) (line : ℕ) (tape : Tape) (n : ℕ) → run_of w looping 0 [] line tape n ≡ looping_by_hand w line tape n
+looping_means w line tape n =
+    then_same (entered w (routine_of looping_function) [] line tape) inside ∙ simp then_assoc
+  where
+    inside : (base : ℕ) (t : Tape) → then_do (means w (calls_of w looping.functions n) n base looping_function.body Plain [] t) (λ e t'. Goes (returned 6 base e) t') ≡ then_do (turns_by_hand w n t) (λ r t'. Goes (Finished 0 base 6) t')
+    inside base t =
+        ap (λ o. then_do (then_do (then_do o (λ e t'. Goes (caught Breaks e) t')) (on_fall (means w (calls_of w looping.functions n) n base Skip))) (λ e t'. Goes (returned 6 base e) t')) (rounds_by_hand w (calls_of w looping.functions n) n base n t)
+        ∙ simp then_assoc
+
+pub looping_code : (w : World) (line : ℕ) (tape : Tape) → SameDialogue (looping_by_hand w line tape) (λ n. exec w (code_of looping) n (Begin 0 [] line) tape)
+looping_code w line tape = same_as (looping_means w line tape) ((behaves looping looping_fits).each w 0 [] line tape)
+
+-- ---- a call
+
+calling_fits : Fit calling
+calling_fits zero f at =
+    let found : AreFound (code_of calling) _ = record {
+      finds = ((refl, omega arith, tt), (((routine_of next, refl, refl), omega arith, refl), ((omega arith, refl), tt)));
+      ends = refl;
+    } in
+    subst (λ g. AreFound (code_of calling) g.body) (some_same at) found
+calling_fits (suc zero) f at =
+    let found : AreFound (code_of calling) _ = record {
+      finds = ((refl, omega arith, tt), ((refl, omega arith, tt), ((refl, omega arith, tt), ((refl, omega arith, tt), ((omega arith, refl), tt)))));
+      ends = refl;
+    } in
+    subst (λ g. AreFound (code_of calling) g.body) (some_same at) found
+calling_fits (suc (suc k)) f at = cc
+
+calling_means : (w : World) (line : ℕ) (tape : Tape) (n : ℕ) → run_of w calling 0 [] line tape n ≡ calling_by_hand w line tape n
+calling_means w line tape zero = simp then_assoc
+calling_means w line tape (suc n) = simp then_assoc
+
+pub calling_code : (w : World) (line : ℕ) (tape : Tape) → SameDialogue (calling_by_hand w line tape) (λ n. exec w (code_of calling) n (Begin 0 [] line) tape)
+calling_code w line tape = same_as (calling_means w line tape) ((behaves calling calling_fits).each w 0 [] line tape)
+
+-- ---- a task's call
+
+submitting_fits : Fit submitting
+submitting_fits zero f at =
+    let found : AreFound (code_of submitting) _ = record {
+      finds = (
+        (refl, omega arith, tt),
+        (
+          (refl, omega arith, tt),
+          (
+            (
+              omega arith,
+              ((refl, omega arith, tt), ((refl, omega arith, tt), ((refl, omega arith, tt), ((refl, omega arith, tt), ((refl, omega arith, tt), (((routine_of task, _, refl, refl, refl, refl), omega arith), tt)))))),
+              (((routine_of task, refl, refl), omega arith, refl), tt),
+              refl,
+            ),
+            ((omega arith, refl), tt),
+          ),
+        ),
+      );
+      ends = refl;
+    } in
+    subst (λ g. AreFound (code_of submitting) g.body) (some_same at) found
+submitting_fits (suc zero) f at =
+    let found : AreFound (code_of submitting) _ = record { finds = tt; ends = refl } in
+    subst (λ g. AreFound (code_of submitting) g.body) (some_same at) found
+submitting_fits (suc (suc k)) f at = cc
+
+submitting_means : (w : World) (line : ℕ) (tape : Tape) (n : ℕ) → run_of w submitting 0 [] line tape n ≡ submitting_by_hand w line tape n
+submitting_means w line tape zero = simp (then_assoc, if_then, fault_then)
+submitting_means w line tape (suc n) = simp (then_assoc, if_then, fault_then)
+
+pub submitting_code : (w : World) (line : ℕ) (tape : Tape) → SameDialogue (submitting_by_hand w line tape) (λ n. exec w (code_of submitting) n (Begin 0 [] line) tape)
+submitting_code w line tape = same_as (submitting_means w line tape) ((behaves submitting submitting_fits).each w 0 [] line tape)

@@ -47,10 +47,17 @@ choosing_by_hand w line tape n =
 -- ---- a loop with both ways out, and a step:
 -- `for (; getchar(); putchar('A')) { if (getchar()) continue; if (getchar()) break; }`
 
+abbrev pub looping_body : Piece
+looping_body = row (Do 3 ops.In ∷ When 3 (Exit 3 Continues) ∷ Do 4 ops.In ∷ When 4 (Exit 4 Breaks) ∷ [])
+
+abbrev pub looping_step : Piece
+looping_step = row (Do 2 (ops.Push (pos 65)) ∷ Do 2 (ops.Out conversions.Char) ∷ Do 2 ops.Drop ∷ [])
+
+abbrev pub looping_function : Function
+looping_function = plain 0 (while_loop 2 (row (Do 2 ops.In ∷ [])) looping_body looping_step ∷ []) 6
+
 abbrev pub looping : Program
-looping = program (plain 0 (while_loop 2 (row (Do 2 ops.In ∷ []))
-    (row (Do 3 ops.In ∷ When 3 (Exit 3 Continues) ∷ Do 4 ops.In ∷ When 4 (Exit 4 Breaks) ∷ []))
-    (row (Do 2 (ops.Push (pos 65)) ∷ Do 2 (ops.Out conversions.Char) ∷ Do 2 ops.Drop ∷ [])) ∷ []) 6 ∷ [])
+looping = program (looping_function ∷ [])
 
 abbrev pub turns_by_hand : World → ℕ → Tape → Outcome ℕ
 turns_by_hand w zero tape = Stops Tired tape
