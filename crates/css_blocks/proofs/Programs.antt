@@ -3,15 +3,17 @@ use Rattle.std.proofs.Common.{◌≡◌, ℕ, zero, suc, ◌+◌, ◌-◌, ◌�
 use Rattle.std.specs.Prelude.{slice_get, nat_le, if◌then◌else◌}
 use Rattle.css_base.specs.declared.ending.Stop.{Stop}
 use Rattle.css_semantics.specs.Dialogue as dialogue
-use Rattle.css_semantics.specs.Dialogue.{Tape, World, Outcome, Goes, Stops, Stopped, Tired, then_do, Mode, Plain, ask}
+use Rattle.css_semantics.specs.Dialogue.{Action, Item, item, Reply, Says, Fails, Refuses, Tape, World, Outcome, Goes, Stops, Stopped, Tired, then_do, Mode, Plain, replied, ask}
+use Rattle.css_semantics.specs.Tasks.{is_started}
+use Rattle.css_isa.specs.Cells.{int_of}
 use Rattle.css_isa.specs.declared.code.Op.TheVariants as ops
 use Rattle.css_isa.specs.declared.code.Instr.{Instr}
 use Rattle.css_isa.specs.Code.{Routine, Shape, Code, call_of}
 use Rattle.css_isa.specs.Steps as steps
 use Rattle.css_isa.specs.Steps.{Caller, State, Begin, At, Halt, Finished, Stuck, Step, on_function, entered, left, given_back, done}
-use Rattle.css_isa.specs.Machine.{exec}
-use Rattle.css_isa.specs.Runs.{Extends}
-use Rattle.css_isa.proofs.Growth.{extends_exec}
+use Rattle.css_isa.specs.Machine.{exec, frame_of, entry_line, finished, main_ends, body_ends}
+use Rattle.css_isa.specs.Runs.{Extends, Grows}
+use Rattle.css_isa.proofs.Growth.{grows_exec, extends_exec}
 use Rattle.css_blocks.specs.declared.part.Way.TheVariants.{Breaks, Continues}
 use Rattle.css_blocks.specs.Pieces.{both}
 use Rattle.css_blocks.specs.Meaning.{Exits, Falls, Jumps, Returns, Sticks, Calls, means}
@@ -225,8 +227,79 @@ module _ (from to : ℕ → Outcome Halt) (longer : (n m : ℕ) → Extends (to 
     stops_only = λ n stop line t e. (n, over_too n (Stops (Stopped stop line) t) tt e);
   }
 
+-- ---- behind a run
+
+is_over_then : {A B : Type 0} (o : Outcome A) (go : A → Tape → Outcome B) → IsOver o → ((a : A) (t : Tape) → IsOver (go a t)) → IsOver (then_do o go)
+is_over_then (Goes a t) go over next = next a t
+is_over_then (Stops (Stopped stop line) t) go over next = tt
+is_over_then (Stops Tired t) go over next = absurd over
+
+is_over_reply : (reply : Reply) (i : Item) (t : Tape) → IsOver (replied reply i t)
+is_over_reply (Says value) i t = tt
+is_over_reply Fails i t = tt
+is_over_reply (Refuses rule) i t = tt
+
+is_over_ask : (w : World) (action : Action) (line : ℕ) (t : Tape) → IsOver (ask w action line t)
+is_over_ask w action line t = is_over_reply (w t (item action line)) (item action line) t
+
+is_over_finish : (b : Bool) (w : World) (line : ℕ) (t : Tape) → IsOver (if b then ask w dialogue.Finish line t else Goes 0 t)
+is_over_finish true w line t = is_over_ask w dialogue.Finish line t
+is_over_finish false w line t = tt
+
+main_over : (w : World) (frame : ℕ) (h : Halt) (t : Tape) → IsOver (main_ends w frame h t)
+main_over w frame (Finished cell base line) t =
+    is_over_then (finished w line t) _ (is_over_finish (is_started t) w line t) (λ r t'. is_over_then (ask w (dialogue.Leave base frame) line t') _ (is_over_ask w (dialogue.Leave base frame) line t')
+    (λ r' t''. is_over_then (ask w (dialogue.End (int_of cell)) line t'') _ (is_over_ask w (dialogue.End (int_of cell)) line t'') (λ r'' t3. tt)))
+main_over w frame Stuck t = tt
+
+body_over : (w : World) (frame : ℕ) (h : Halt) (t : Tape) → IsOver (body_ends w frame h t)
+body_over w frame (Finished cell base line) t =
+    is_over_then (ask w (dialogue.Leave base frame) line t) _ (is_over_ask w (dialogue.Leave base frame) line t) (λ r t'. is_over_then (ask w dialogue.Returns line t') _ (is_over_ask w dialogue.Returns line t') (λ r' t''. tt))
+body_over w frame Stuck t = tt
+
+-- two that have the same dialogue have it with something behind them that comes to an end
+module _ {A B : Type 0} (go : A → Tape → Outcome B) (comes : (a : A) (t : Tape) → IsOver (go a t)) where
+  ends_too : (f g : ℕ → Outcome A) → ((n : ℕ) (a : A) (t : Tape) → f n ≡ Goes a t → (m : ℕ) × (g m ≡ Goes a t)) → ((n : ℕ) (stop : Stop) (line : ℕ) (t : Tape) → f n ≡ Stops (Stopped stop line) t → (m : ℕ) × (g m ≡ Stops (Stopped stop line) t))
+      → (n : ℕ) (x : Outcome A) → f n ≡ x → (o : Outcome B) → IsOver o → then_do x go ≡ o → (m : ℕ) × (then_do (g m) go ≡ o)
+  ends_too f g ends stops n (Goes a t) e o over h = let r = ends n a t e in (r.0, ap (λ x. then_do x go) r.1 ∙ h)
+  ends_too f g ends stops n (Stops (Stopped stop line) t) e o over h = let r = stops n stop line t e in (r.0, ap (λ x. then_do x go) r.1 ∙ h)
+  ends_too f g ends stops n (Stops Tired t) e o over h = absurd (subst IsOver (sym h) over)
+
+  tires_too : (f g : ℕ → Outcome A) → SameDialogue f g → (n : ℕ) (x : Outcome A) → f n ≡ x → (t : Tape) → then_do x go ≡ Stops Tired t → (m : ℕ) × (n ≤ m) × (then_do (g m) go ≡ Stops Tired t)
+  tires_too f g same n (Goes a t') e t h = absurd (subst IsOver h (comes a t'))
+  tires_too f g same n (Stops (Stopped stop line) t') e t h = cc
+  tires_too f g same n (Stops Tired t') e t h = let r = same.goes_on n t' e in (r.0, r.1, ap (λ x. then_do x go) r.2 ∙ h)
+
+  pub same_then : (f g : ℕ → Outcome A) → SameDialogue f g → SameDialogue (λ n. then_do (f n) go) (λ n. then_do (g n) go)
+  same_then f g same = record {
+    ends = λ n a t h. ends_too f g same.ends same.stops n (f n) refl (Goes a t) tt h;
+    stops = λ n stop line t h. ends_too f g same.ends same.stops n (f n) refl (Stops (Stopped stop line) t) tt h;
+    goes_on = λ n t h. tires_too f g same n (f n) refl t h;
+    ends_only = λ n a t h. ends_too g f same.ends_only same.stops_only n (g n) refl (Goes a t) tt h;
+    stops_only = λ n stop line t h. ends_too g f same.ends_only same.stops_only n (g n) refl (Stops (Stopped stop line) t) tt h;
+  }
+
+each_behaves : (p : Program) → Fit p → (w : World) (k : ℕ) (arguments : List ℕ) (line : ℕ) (t : Tape) → SameDialogue (run_of w p k arguments line t) (λ n. exec w (code_of p) n (Begin k arguments line) t)
+each_behaves p fit w k arguments line t =
+    same_dialogue (run_of w p k arguments line t) (λ n. exec w (code_of p) n (Begin k arguments line) t)
+    (λ n m. extends_exec w (code_of p) n m (Begin k arguments line) t) (λ n. begun_runs w p fit n k (slice_get p.functions k) refl arguments line t)
+
 pub behaves : (p : Program) → Fit p → Behaves p (code_of p)
 behaves p fit = record {
-  each = λ w k arguments line t. same_dialogue (run_of w p k arguments line t) (λ n. exec w (code_of p) n (Begin k arguments line) t)
-      (λ n m. extends_exec w (code_of p) n m (Begin k arguments line) t) (λ n. begun_runs w p fit n k (slice_get p.functions k) refl arguments line t);
+  each = each_behaves p fit;
+  main = λ w.
+      let f = slice_get (code_of p).functions p.main in
+      same_then (main_ends w (frame_of f)) (main_over w (frame_of f)) (run_of w p p.main [] (entry_line f) []) (λ n. exec w (code_of p) n (Begin p.main [] (entry_line f)) []) (each_behaves p fit w p.main [] (entry_line f) []);
+  bodies = λ w k arguments line.
+      let f = slice_get (code_of p).functions k in
+      same_then (body_ends w (frame_of f)) (body_over w (frame_of f)) (run_of w p k arguments line []) (λ n. exec w (code_of p) n (Begin k arguments line) []) (each_behaves p fit w k arguments line []);
 }
+
+-- ---- tapes
+
+pub tapes_grow : (p : Program) → Fit p → (w : World) (k : ℕ) (arguments : List ℕ) (line : ℕ) (t : Tape) (n : ℕ) → Grows t (run_of w p k arguments line t n)
+tapes_grow p fit w k arguments line t n =
+    let r = reached (run_of w p k arguments line t) (λ n. exec w (code_of p) n (Begin k arguments line) t)
+        (λ n m. extends_exec w (code_of p) n m (Begin k arguments line) t) (λ n. begun_runs w p fit n k (slice_get p.functions k) refl arguments line t)
+        n (run_of w p k arguments line t n) (begun_runs w p fit n k (slice_get p.functions k) refl arguments line t).by in
+    subst (Grows t) r.2 (grows_exec w (code_of p) r.0 (Begin k arguments line) t)

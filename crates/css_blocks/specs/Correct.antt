@@ -4,9 +4,10 @@ use Rattle.css_base.specs.declared.ending.Stop.{Stop}
 use Rattle.css_semantics.specs.Dialogue.{World, Tape, Outcome, Goes, Stops, Stopped, Tired}
 use Rattle.css_isa.specs.Code.{Code}
 use Rattle.css_isa.specs.Steps.{Begin}
+use Rattle.css_isa.specs.Machine as machine
 use Rattle.css_isa.specs.Machine.{exec}
 use Rattle.css_blocks.specs.Layout.{Program}
-use Rattle.css_blocks.specs.Programs.{run_of}
+use Rattle.css_blocks.specs.Programs.{run_of, source, alone}
 
 -- A dialogue whose end depends on a fuel, and a machine that takes so many steps, make one tape and end in the same way, the one exactly
 -- when the other does, and go on for ever together.
@@ -17,6 +18,8 @@ pub record SameDialogue {A : Type 0} (from to : ℕ → Outcome A) : Type 0 wher
   pub ends_only : (n : ℕ) (a : A) (tape : Tape) → to n ≡ Goes a tape → (fuel : ℕ) × (from fuel ≡ Goes a tape)
   pub stops_only : (n : ℕ) (stop : Stop) (line : ℕ) (tape : Tape) → to n ≡ Stops (Stopped stop line) tape → (fuel : ℕ) × (from fuel ≡ Stops (Stopped stop line) tape)
 
--- in every world, each function from its entry on
+-- In every world: each function from its entry on, main as a whole, and each function alone as a task's body.
 pub record Behaves (p : Program) (code : Code) : Type 0 where
   pub each : (w : World) (k : ℕ) (arguments : List ℕ) (line : ℕ) (tape : Tape) → SameDialogue (run_of w p k arguments line tape) (λ n. exec w code n (Begin k arguments line) tape)
+  pub main : (w : World) → SameDialogue (source w p) (machine.target w code)
+  pub bodies : (w : World) (k : ℕ) (arguments : List ℕ) (line : ℕ) → SameDialogue (alone w p k arguments line) (machine.alone w code k arguments line)

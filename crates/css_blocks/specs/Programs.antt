@@ -1,11 +1,12 @@
 -- The dialogue of a program of pieces.
-use Rattle.std.specs.Prelude.{ℕ, zero, suc, Bool, true, false, List, [], Option, Some, None, slice_get}
+use Rattle.std.specs.Prelude.{ℕ, ℤ, zero, suc, Bool, true, false, List, [], Option, Some, None, slice_get}
 use Rattle.css_semantics.specs.Dialogue as dialogue
 use Rattle.css_semantics.specs.Dialogue.{Tape, World, Outcome, Goes, Stops, Tired, then_do, Plain, ask}
 use Rattle.css_isa.specs.Code.{Shape, call_of}
 use Rattle.css_isa.specs.Steps.{Halt, Finished, Stuck, entered, left, given_back}
+use Rattle.css_isa.specs.Machine.{frame_of, entry_line, main_ends, body_ends}
 use Rattle.css_blocks.specs.Meaning.{Exits, Falls, Jumps, Returns, Sticks, Calls, means}
-use Rattle.css_blocks.specs.Layout.{Function, Program, routine_of}
+use Rattle.css_blocks.specs.Layout.{Function, Program, routine_of, code_of}
 
 -- behind a function's piece, with the frame at a base: in this line 0 is returned
 abbrev pub returned : (end base : ℕ) → Exits → Halt
@@ -62,3 +63,14 @@ begun w fs n (Some f) arguments line tape = applied w (calls_of w fs n) n f argu
 
 abbrev pub run_of : World → Program → (function : ℕ) (arguments : List ℕ) (line : ℕ) → Tape → ℕ → Outcome Halt
 run_of w p k arguments line tape n = begun w p.functions n (slice_get p.functions k) arguments line tape
+
+-- main's dialogue, from its entry
+abbrev pub source : World → Program → ℕ → Outcome (Option ℤ)
+source w p n =
+    let f = slice_get (code_of p).functions p.main in
+    then_do (run_of w p p.main [] (entry_line f) [] n) (main_ends w (frame_of f))
+
+-- the dialogue of a function alone as a task's body
+abbrev pub alone : World → Program → (function : ℕ) → (arguments : List ℕ) → (line : ℕ) → ℕ → Outcome (Option ℕ)
+alone w p function arguments line n =
+    then_do (run_of w p function arguments line [] n) (body_ends w (frame_of (slice_get (code_of p).functions function)))

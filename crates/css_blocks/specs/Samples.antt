@@ -117,8 +117,8 @@ abbrev pub submitting_by_hand : World → (line : ℕ) → Tape → ℕ → Outc
 submitting_by_hand w line tape n =
     then_do (ask w (Enter 0) line tape) (λ base t.
     if makes_tasks t then
-      (let i = item_in (Measuring []) DimFault 2 in at_fault (w t i) DivideByZero i t)
+    (let i = item_in (Measuring []) DimFault 2 in at_fault (w t i) DivideByZero i t)
     else within n (λ t'.
-      then_do (ask w (Enter 8) 2 t') (λ inner t1.
-      then_do (ask w (Store (inner % 2 ^ 32) (big_endian_bytes 4 4096)) 2 t1) (λ e t2.
-      then_do (ask w (Leave inner 8) 9 t2) (λ e' t3. Goes (Finished 0 base 2) t3)))) t)
+    then_do (ask w (Enter 8) 2 t') (λ inner t1.
+    then_do (ask w (Store (inner % 2 ^ 32) (big_endian_bytes 4 4096)) 2 t1) (λ e t2.
+    then_do (ask w (Leave inner 8) 9 t2) (λ e' t3. Goes (Finished 0 base 2) t3)))) t)

@@ -1,9 +1,12 @@
 //! Laws of pieces. Each is what the contract of an empty function says.
-ghost use Rattle.std.specs.Prelude.{◌≡◌, ℕ, Some, slice_get};
+ghost use Rattle.std.specs.Prelude.{◌≡◌, ℕ, List, Some, slice_get};
 ghost use Rattle.css_isa.specs.Soundness.{Plan, IsSoundBody};
 ghost use Rattle.css_blocks.specs.Layout.{Function, Program, routine_of, code_of};
 ghost use Rattle.css_blocks.specs.Finds.{Fit};
 ghost use Rattle.css_blocks.specs.Correct.{Behaves};
+ghost use Rattle.css_isa.specs.Runs.{Grows};
+ghost use Rattle.css_semantics.specs.Dialogue.{World, Tape};
+ghost use Rattle.css_blocks.specs.Programs.{run_of};
 
 /// The code of a program of pieces has its dialogue, in every world, where each function's piece finds what it needs.
 pub fn code_has_the_dialogue()
@@ -13,4 +16,9 @@ pub fn code_has_the_dialogue()
 /// Each function's body is sound then.
 pub fn bodies_are_sound()
     ensures { (p : Program) → Fit p → (k : ℕ) (f : Function) → slice_get p.functions k ≡ Some f → (plan : Plan) × IsSoundBody (code_of p) (routine_of f) plan }
+{}
+
+/// The dialogue of pieces only adds to the tape.
+pub fn tapes_of_pieces_grow()
+    ensures { (p : Program) → Fit p → (w : World) (k : ℕ) (arguments : List ℕ) (line : ℕ) (tape : Tape) (n : ℕ) → Grows tape (run_of w p k arguments line tape n) }
 {}
