@@ -5,3 +5,4 @@ pub mod Programs
 pub mod Plans
 pub mod Parts
 pub mod Worked
+pub mod Whole

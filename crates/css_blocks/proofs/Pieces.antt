@@ -16,7 +16,7 @@ use Rattle.css_isa.specs.Machine.{exec}
 use Rattle.css_blocks.specs.declared.part.Way.{Way}
 use Rattle.css_blocks.specs.declared.part.Way.TheVariants.{Breaks, Continues}
 use Rattle.css_blocks.specs.Pieces.{Piece, Skip, Then, Do, Choice, When, Loop, Catch, Exit, Unless, Invoke, Submit, Leave, is_plain, Ways, at_way, aimed}
-use Rattle.css_blocks.specs.Meaning.{Exits, Falls, Jumps, Returns, Sticks, Does, on_fall, caught, on_top, on_many, worked, acts, rounds, Calls, given, means}
+use Rattle.css_blocks.specs.Meaning.{Exits, Falls, Jumps, Returns, Sticks, Does, on_fall, caught, on_top, on_many, worked, acts, turns, Calls, given, means}
 use Rattle.css_blocks.specs.Layout.{size, instr, lower}
 use Rattle.css_blocks.specs.Finds.{Level, below, behind, Takes, IsTask, Finds}
 use Rattle.css_blocks.proofs.Runs.{Runs, runs_done, runs_step, runs_less, runs_fewer, runs_then, runs_moves, runs_asks}
@@ -192,21 +192,21 @@ module _ (w : World) (code : Code) (r : Running) (there : slice_get code.functio
 
   -- ---- loops
 
-  -- at most m rounds
-  rounds_run : (n line : ℕ) (first second : Does) (at turn last end : ℕ) (ts : Ways ℕ)
+  -- at most m turns, from the instruction that asks for one
+  turns_run : (n line : ℕ) (first second : Does) (at turn last end : ℕ) (ts : Ways ℕ)
       → slice_get r.routine.body turn ≡ Some (instr line ops.Turn) → slice_get r.routine.body last ≡ Some (instr line (ops.Jump at))
       → ((mode : Mode) (s : List ℕ) (t : Tape) → Runs n (Begins at mode s t) (Ends turn ts) (first mode s t))
       → ((mode : Mode) (s : List ℕ) (t : Tape) → Runs n (Begins (turn + 1) mode s t) (Ends last ts) (second mode s t))
-      → (m : ℕ) → m ≤ n → (mode : Mode) (s : List ℕ) (t : Tape) → Runs m (Begins at mode s t) (Ends end ts) (rounds w line m first second mode s t)
-  rounds_run n line first second at turn last end ts h_turn h_last r_first r_second zero le mode s t = record { by = (0, omega arith, refl) }
-  rounds_run n line first second at turn last end ts h_turn h_last r_first r_second (suc m) le mode s t =
-      let again : (mode : Mode) (s : List ℕ) (t : Tape) → Runs (suc m) (Begins last mode s t) (Ends end ts) (rounds w line m first second mode s t) =
-      λ mode s t. runs_moves_on w code r there (instr line (ops.Jump at)) at mode s h_last refl (rounds_run n line first second at turn last end ts h_turn h_last r_first r_second m (omega arith) mode s t) in
-      let inside : (mode : Mode) (s : List ℕ) (t : Tape) → Runs (suc m) (Begins (turn + 1) mode s t) (Ends end ts) (then_do (second mode s t) (on_fall (rounds w line m first second))) =
-      λ mode s t. runs_then (runs_fewer le (r_second mode s t)) (fall_runs last end ts (rounds w line m first second) again) in
-      let turned : (mode : Mode) (s : List ℕ) (t : Tape) → Runs (suc m) (Begins turn mode s t) (Ends end ts) (then_do (ask_in w mode Turn line t) (λ reply t'. then_do (second mode s t') (on_fall (rounds w line m first second)))) =
-      λ mode s t. runs_less (runs_step (λ k. then_do (ask_in w mode Turn line t) (λ reply t'. Begins (turn + 1) mode s t' k)) (one_step w code r there (instr line ops.Turn) turn mode s t h_turn) (runs_then (runs_asks (ask_in w mode Turn line t) (λ k. refl)) (λ reply t'. inside mode s t'))) in
-      runs_then (runs_fewer le (r_first mode s t)) (fall_runs turn end ts _ turned)
+      → (m : ℕ) → m ≤ n → (mode : Mode) (s : List ℕ) (t : Tape) → Runs m (Begins turn mode s t) (Ends end ts) (turns w line m first second mode s t)
+  turns_run n line first second at turn last end ts h_turn h_last r_first r_second zero le mode s t = record { by = (0, omega arith, refl) }
+  turns_run n line first second at turn last end ts h_turn h_last r_first r_second (suc m) le mode s t =
+      let again : (mode : Mode) (s : List ℕ) (t : Tape) → Runs m (Begins at mode s t) (Ends end ts) (then_do (first mode s t) (on_fall (turns w line m first second))) =
+      λ mode s t. runs_then (runs_fewer (omega arith) (r_first mode s t)) (fall_runs turn end ts (turns w line m first second) (turns_run n line first second at turn last end ts h_turn h_last r_first r_second m (omega arith))) in
+      let back : (mode : Mode) (s : List ℕ) (t : Tape) → Runs (suc m) (Begins last mode s t) (Ends end ts) (then_do (first mode s t) (on_fall (turns w line m first second))) =
+      λ mode s t. runs_moves_on w code r there (instr line (ops.Jump at)) at mode s h_last refl (again mode s t) in
+      let inside : (mode : Mode) (s : List ℕ) (t : Tape) → Runs (suc m) (Begins (turn + 1) mode s t) (Ends end ts) (then_do (second mode s t) (on_fall (λ mode s t. then_do (first mode s t) (on_fall (turns w line m first second))))) =
+      λ mode s t. runs_then (runs_fewer le (r_second mode s t)) (fall_runs last end ts _ back) in
+      runs_less (runs_step (λ k. then_do (ask_in w mode Turn line t) (λ reply t'. Begins (turn + 1) mode s t' k)) (one_step w code r there (instr line ops.Turn) turn mode s t h_turn) (runs_then (runs_asks (ask_in w mode Turn line t) (λ k. refl)) (λ reply t'. inside mode s t')))
 
   -- ---- tasks' calls
 
@@ -293,10 +293,12 @@ module _ (w : World) (code : Code) (calls : Calls) (n : ℕ) (r : Running) (ther
       let turn = at + size p in
       let over = has_next r.routine.body p at ts _ has in
       let last = has_next r.routine.body q (turn + 1) ts _ over.1 in
-      rounds_run w code r there n line (means w calls n r.base p) (means w calls n r.base q) at turn (turn + 1 + size q) (at + size (Loop line p q)) ts over.0 last.0
-      (λ m s t. piece_runs p ls l finds.0 at ts m s t (has_front r.routine.body at (lower p at ts) _ has))
-      (λ m s t. piece_runs q ls _ finds.1 (turn + 1) ts m s t (has_front r.routine.body (turn + 1) (lower q (turn + 1) ts) _ over.1))
-      n (omega arith) mode stack t
+      let first : (m : Mode) (s : List ℕ) (t : Tape) → Runs n (From w code r at m s t) (Lands w code r turn ts) (means w calls n r.base p m s t) =
+      λ m s t. piece_runs p ls l finds.0 at ts m s t (has_front r.routine.body at (lower p at ts) _ has) in
+      let second : (m : Mode) (s : List ℕ) (t : Tape) → Runs n (From w code r (turn + 1) m s t) (Lands w code r (turn + 1 + size q) ts) (means w calls n r.base q m s t) =
+      λ m s t. piece_runs q ls _ finds.1 (turn + 1) ts m s t (has_front r.routine.body (turn + 1) (lower q (turn + 1) ts) _ over.1) in
+      let end = at + size (Loop line p q) in
+      runs_then (first mode stack t) (fall_runs w code r there turn end ts _ (turns_run w code r there n line (means w calls n r.base p) (means w calls n r.base q) at turn (turn + 1 + size q) end ts over.0 last.0 first second n (omega arith)))
   piece_runs (Catch way p) ls l finds at ts mode stack t has =
       runs_then (piece_runs p _ l finds at (aimed way (at + size p) ts) mode stack t has) (caught_runs w code r there way (at + size p) ts)
   piece_runs (Exit line way) ls l finds at ts mode stack t has =

@@ -351,7 +351,10 @@ module _ (code : Code) where
   both_at whole end here Breaks = here
   both_at whole end here Continues = here
 
-  pub body_sound : (f : Function) → AreFound code f.body → (plan : Plan) × IsSoundBody code (routine_of f) plan
+  abbrev pub plan_of : Function → Plan
+  plan_of f = planned (plan code f.body ground 1 (both 1) ++ spot ground 1 ∷ spot (level 1 Plain) 0 ∷ [])
+
+  pub body_sound : (f : Function) → AreFound code f.body → IsSoundBody code (routine_of f) (plan_of f)
   body_sound f found =
       let p = f.body in
       let one : Ways ℕ = both 1 in
@@ -376,13 +379,11 @@ module _ (code : Code) where
       let all_fine = both_fine code whole 0 (size p) spots last is ends (length-plan code p ground 1 one) (length-lower p 0 ts) fine_spots (subst (λ k. AllFine code whole k last ends) y fine_last) in
       let long : length (is ++ ends) ≡ size p + 2 = omega (arith, length-append is ends, length-lower p 0 ts) in
       let low : AllBelow (size p + 2) whole = both_below _ spots last (more_below (1 + size p) (size p + 2) spots (omega arith) (plan_below p 1 ground 1 one (omega arith) both_ones)) (omega arith, (omega arith, tt)) in
-      let even : length whole ≡ length (is ++ ends) = omega (arith, length-append spots last, length-plan code p ground 1 one) in (
-        planned whole,
-        record {
-          first = (rank p 1 one, planned_at whole 0 ∙ begins code whole p 0 ground 1 (both ground) one found.finds has_spots end);
-          each = λ place s at.
-              let r = each_of whole (length (is ++ ends)) 0 whole (is ++ ends) even all_fine (subst (λ m. AllBelow m whole) (sym long) low) place s (sym (planned_at whole place) ∙ at) in
-              let x : 0 + place ≡ place = omega arith in
-              (r.0, r.1, subst (λ q. Fine code whole q s r.0) x r.2, r.3);
-        },
-      )
+      let even : length whole ≡ length (is ++ ends) = omega (arith, length-append spots last, length-plan code p ground 1 one) in
+      record {
+        first = (rank p 1 one, planned_at whole 0 ∙ begins code whole p 0 ground 1 (both ground) one found.finds has_spots end);
+        each = λ place s at.
+            let r = each_of whole (length (is ++ ends)) 0 whole (is ++ ends) even all_fine (subst (λ m. AllBelow m whole) (sym long) low) place s (sym (planned_at whole place) ∙ at) in
+            let x : 0 + place ≡ place = omega arith in
+            (r.0, r.1, subst (λ q. Fine code whole q s r.0) x r.2, r.3);
+      }

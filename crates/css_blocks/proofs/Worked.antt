@@ -9,12 +9,12 @@ use Rattle.css_isa.specs.Machine.{exec}
 use Rattle.css_isa.specs.declared.code.Op.TheVariants as ops
 use Rattle.css_blocks.specs.declared.part.Way.TheVariants.{Breaks, Continues}
 use Rattle.css_blocks.specs.Pieces.{Skip, Then, Do, Catch, Unless, row}
-use Rattle.css_blocks.specs.Meaning.{Calls, Jumps, on_fall, caught, means, rounds}
+use Rattle.css_blocks.specs.Meaning.{Calls, Does, Jumps, on_fall, caught, turns, means}
 use Rattle.css_blocks.specs.Layout.{Function, Program, routine_of, code_of}
 use Rattle.css_blocks.specs.Programs.{returned, run_of, calls_of}
 use Rattle.css_blocks.specs.Finds.{AreFound, Fit}
 use Rattle.css_blocks.specs.Correct.{SameDialogue, Behaves}
-use Rattle.css_blocks.specs.Samples.{choosing, choosing_by_hand, looping_body, looping_step, looping_function, looping, turns_by_hand, looping_by_hand, next, calling, calling_by_hand, task, submitting, submitting_by_hand}
+use Rattle.css_blocks.specs.Samples.{choosing, choosing_by_hand, looping_body, looping_step, looping_function, looping, tested_by_hand, turns_by_hand, looping_by_hand, next, calling, calling_by_hand, task, submitting, submitting_by_hand}
 use Rattle.css_blocks.proofs.Programs.{behaves}
 
 pub then_assoc : {A B C : Type 0} (o : Outcome A) (f : A → Tape → Outcome B) (g : B → Tape → Outcome C) → then_do (then_do o f) g ≡ then_do o (λ a t. then_do (f a t) g)
@@ -84,17 +84,25 @@ looping_fits zero f at =
 looping_fits (suc k) f at = cc
 
 module _ (w : World) (calls : Calls) (m base : ℕ) where
-  rounds_by_hand : (n : ℕ) (t : Tape) → rounds w 2 n (means w calls m base (Then (row (Do 2 ops.In ∷ [])) (Unless 2 Breaks))) (means w calls m base (Then (Catch Continues looping_body) looping_step)) Plain [] t ≡ then_do (turns_by_hand w n t) (λ r t'. Goes (Jumps Breaks Plain []) t')
-  rounds_by_hand zero t = refl
-  rounds_by_hand (suc n) t = simp (then_assoc, if_then, rounds_by_hand n)
+  abbrev first : Does
+  first = means w calls m base (Then (row (Do 2 ops.In ∷ [])) (Unless 2 Breaks))
+
+  abbrev second : Does
+  second = means w calls m base (Then (Catch Continues looping_body) looping_step)
+
+  turns_mean : (n : ℕ) (t : Tape) → turns w 2 n first second Plain [] t ≡ then_do (turns_by_hand w n t) (λ r t'. Goes (Jumps Breaks Plain []) t')
+  turns_mean zero t = refl
+  turns_mean (suc n) t = simp (then_assoc, if_then, turns_mean n)
+
+  loop_means : (n : ℕ) (t : Tape) → then_do (first Plain [] t) (on_fall (turns w 2 n first second)) ≡ then_do (tested_by_hand w (turns_by_hand w n) t) (λ r t'. Goes (Jumps Breaks Plain []) t')
+  loop_means n t = simp (then_assoc, if_then, turns_mean n)
 
 looping_means : (w : World) (line : ℕ) (tape : Tape) (n : ℕ) → run_of w looping 0 [] line tape n ≡ looping_by_hand w line tape n
-looping_means w line tape n =
-    then_same (entered w (routine_of looping_function) [] line tape) inside ∙ simp then_assoc
+looping_means w line tape n = then_same (entered w (routine_of looping_function) [] line tape) inside ∙ simp then_assoc
   where
-    inside : (base : ℕ) (t : Tape) → then_do (means w (calls_of w looping.functions n) n base looping_function.body Plain [] t) (λ e t'. Goes (returned 6 base e) t') ≡ then_do (turns_by_hand w n t) (λ r t'. Goes (Finished 0 base 6) t')
+    inside : (base : ℕ) (t : Tape) → then_do (means w (calls_of w looping.functions n) n base looping_function.body Plain [] t) (λ e t'. Goes (returned 6 base e) t') ≡ then_do (tested_by_hand w (turns_by_hand w n) t) (λ r t'. Goes (Finished 0 base 6) t')
     inside base t =
-        ap (λ o. then_do (then_do (then_do o (λ e t'. Goes (caught Breaks e) t')) (on_fall (means w (calls_of w looping.functions n) n base Skip))) (λ e t'. Goes (returned 6 base e) t')) (rounds_by_hand w (calls_of w looping.functions n) n base n t)
+        ap (λ o. then_do (then_do (then_do o (λ e t'. Goes (caught Breaks e) t')) (on_fall (means w (calls_of w looping.functions n) n base Skip))) (λ e t'. Goes (returned 6 base e) t')) (loop_means w (calls_of w looping.functions n) n base n t)
         ∙ simp then_assoc
 
 pub looping_code : (w : World) (line : ℕ) (tape : Tape) → SameDialogue (looping_by_hand w line tape) (λ n. exec w (code_of looping) n (Begin 0 [] line) tape)

@@ -1,11 +1,12 @@
 -- That a piece finds its cells and functions, and stands in a mode in which it may: what each construct of a language owes.
-use Rattle.std.specs.Prelude.{◌≡◌, ℕ, ◌+◌, ◌-◌, ◌≤◌, Bool, true, List, All, length, Some, slice_get}
+use Rattle.std.specs.Prelude.{◌≡◌, ℕ, ◌+◌, ◌-◌, ◌≤◌, Bool, true, List, [], All, length, Some, slice_get}
 use Rattle.css_semantics.specs.Dialogue.{Mode, Plain}
+use Rattle.css_semantics.specs.Memory.{first_global}
 use Rattle.css_isa.specs.Code.{Routine, Shape, Code, all_dimensions}
 use Rattle.css_isa.specs.Roles.{Role, Straight, Turning, Outward, Telling, Awaiting, Changing, Testing, Jumping, Branching, Calling, Submitting, Returning, role_of}
-use Rattle.css_isa.specs.Soundness.{needs, height_behind, IsPlainAt}
+use Rattle.css_isa.specs.Soundness.{needs, height_behind, IsPlainAt, IsQuiet, IsShapeOf, IsReached, IsWithin}
 use Rattle.css_blocks.specs.Pieces.{Piece, Skip, Then, Do, Choice, When, Loop, Catch, Exit, Unless, Invoke, Submit, Leave, is_plain, Ways, at_way, both, aimed}
-use Rattle.css_blocks.specs.Layout.{Function, Program, code_of}
+use Rattle.css_blocks.specs.Layout.{Function, Program, routine_of, code_of}
 
 -- how many cells there are, and the mode
 pub record Level : Type 0 where
@@ -73,3 +74,31 @@ module _ (code : Code) where
 -- each function of a program finds what it needs
 abbrev pub Fit : Program → Type 0
 Fit p = (k : ℕ) (f : Function) → slice_get p.functions k ≡ Some f → AreFound (code_of p) f.body
+
+-- ---- whole programs
+
+module _ (code : Code) where
+  -- a piece that a task may have
+  abbrev pub MakesNoEvents : Piece → Type 0
+  MakesNoEvents Skip = Unit {0}
+  MakesNoEvents (Then p q) = MakesNoEvents p × MakesNoEvents q
+  MakesNoEvents (Do line op) = IsQuiet code op
+  MakesNoEvents (Choice line p q) = MakesNoEvents p × MakesNoEvents q
+  MakesNoEvents (When line p) = MakesNoEvents p
+  MakesNoEvents (Loop line p q) = MakesNoEvents p × MakesNoEvents q
+  MakesNoEvents (Catch way p) = MakesNoEvents p
+  MakesNoEvents (Exit line way) = Unit {0}
+  MakesNoEvents (Unless line way) = Unit {0}
+  MakesNoEvents (Invoke line f count) = Unit {0}
+  MakesNoEvents (Submit line f count dims) = ⊥
+  MakesNoEvents (Leave line) = Unit {0}
+
+-- Each function finds what it needs, main has no parameters, the shapes of tasks are shapes of their functions, what tasks reach makes no
+-- events, and the first bytes are those of globals.
+pub record IsWhole (p : Program) : Type 0 where
+  pub fits : Fit p
+  pub main : (f : Function) × (slice_get p.functions p.main ≡ Some f) × (f.parameters ≡ [])
+  pub shapes : (k : ℕ) (f : Function) (s : Shape) → slice_get p.functions k ≡ Some f → f.task ≡ Some s → IsShapeOf (code_of p) s (routine_of f)
+  pub quiet : (k : ℕ) (f : Function) → IsReached (code_of p) k → slice_get p.functions k ≡ Some f → MakesNoEvents (code_of p) f.body
+  pub globals : first_global ≤ p.globals_end
+  pub datums : All (IsWithin (code_of p)) p.datums

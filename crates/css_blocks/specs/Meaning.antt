@@ -74,13 +74,13 @@ acts w base line Returning op mode stack tape = Goes Sticks tape
 
 -- ---- pieces
 
--- at most so many rounds of a loop
-abbrev pub rounds : World → (line : ℕ) → ℕ → (first second : Does) → Does
-rounds w line zero first second mode stack tape = Stops Tired tape
-rounds w line (suc m) first second mode stack tape =
-    then_do (first mode stack tape) (on_fall (λ mode' stack' tape'.
-    then_do (ask_in w mode' Turn line tape') (λ r tape''.
-    then_do (second mode' stack' tape'') (on_fall (rounds w line m first second)))))
+-- A loop from its turn on, at most so many of them: each asks for it, does the second part, and then the first for the next.
+abbrev pub turns : World → (line : ℕ) → ℕ → (first second : Does) → Does
+turns w line zero first second mode stack tape = Stops Tired tape
+turns w line (suc m) first second mode stack tape =
+    then_do (ask_in w mode Turn line tape) (λ r tape'.
+    then_do (second mode stack tape') (on_fall (λ mode' stack' tape''.
+    then_do (first mode' stack' tape'') (on_fall (turns w line m first second)))))
 
 -- What calls mean, and tasks' calls over a caller's frame at a base: the cell that they give, or none where the function lacks something.
 pub record Calls : Type 0 where
@@ -92,7 +92,7 @@ abbrev pub given : Mode → List ℕ → Option ℕ → Tape → Outcome Exits
 given mode rest None tape = Goes Sticks tape
 given mode rest (Some cell) tape = Goes (Falls mode (cell ∷ rest)) tape
 
--- in a world, where calls mean this, and a loop makes at most n rounds, over a frame at a base
+-- in a world, where calls mean this, and a loop makes at most n turns, over a frame at a base
 module _ (w : World) (calls : Calls) (n base : ℕ) where
   abbrev pub means : Piece → Does
   means Skip mode stack tape = Goes (Falls mode stack) tape
@@ -102,7 +102,7 @@ module _ (w : World) (calls : Calls) (n base : ℕ) where
       on_top stack tape (λ cell rest. if nat_eq cell 0 then means q mode rest tape else means p mode rest tape)
   means (When line p) mode stack tape =
       on_top stack tape (λ cell rest. if nat_eq cell 0 then Goes (Falls mode rest) tape else means p mode rest tape)
-  means (Loop line p q) mode stack tape = rounds w line n (means p) (means q) mode stack tape
+  means (Loop line p q) mode stack tape = then_do (means p mode stack tape) (on_fall (turns w line n (means p) (means q)))
   means (Catch way p) mode stack tape = then_do (means p mode stack tape) (λ e tape'. Goes (caught way e) tape')
   means (Exit line way) mode stack tape = Goes (Jumps way mode stack) tape
   means (Unless line way) mode stack tape =

@@ -45,7 +45,7 @@ abbrev pub submitted : World → Calls → ℕ → (number : ℕ) → Option Fun
 submitted w calls n number None arguments dimensions base line tape = Goes None tape
 submitted w calls n number (Some f) arguments dimensions base line tape = submitted_as w calls n number f f.task arguments dimensions base line tape
 
--- calls that nest at most as deep as the fuel, in which each loop makes at most as many rounds
+-- calls that nest at most as deep as the fuel, in which each loop makes at most as many turns
 abbrev pub calls_of : World → List Function → ℕ → Calls
 calls_of w fs zero = record {
   call = λ k arguments line tape. Stops Tired tape;

@@ -59,18 +59,19 @@ looping_function = plain 0 (while_loop 2 (row (Do 2 ops.In ∷ [])) looping_body
 abbrev pub looping : Program
 looping = program (looping_function ∷ [])
 
+abbrev pub tested_by_hand : World → (Tape → Outcome ℕ) → Tape → Outcome ℕ
+tested_by_hand w go tape = then_do (ask w In 2 tape) (λ r t. if nat_eq (byte_cell r) 0 then Goes 0 t else go t)
+
 abbrev pub turns_by_hand : World → ℕ → Tape → Outcome ℕ
 turns_by_hand w zero tape = Stops Tired tape
 turns_by_hand w (suc n) tape =
-    let again : Tape → Outcome ℕ = λ t. then_do (ask w (Out (65 ∷ [])) 2 t) (λ r t'. turns_by_hand w n t') in
-    then_do (ask w In 2 tape) (λ r t1.
-    if nat_eq (byte_cell r) 0 then Goes 0 t1 else
-    then_do (ask w Turn 2 t1) (λ r t2. then_do (ask w In 3 t2) (λ r t3.
-    if nat_eq (byte_cell r) 0 then then_do (ask w In 4 t3) (λ r t4. if nat_eq (byte_cell r) 0 then again t4 else Goes 0 t4) else again t3)))
+    let again : Tape → Outcome ℕ = λ t. then_do (ask w (Out (65 ∷ [])) 2 t) (λ r t'. tested_by_hand w (turns_by_hand w n) t') in
+    then_do (ask w Turn 2 tape) (λ r t2. then_do (ask w In 3 t2) (λ r t3.
+    if nat_eq (byte_cell r) 0 then then_do (ask w In 4 t3) (λ r t4. if nat_eq (byte_cell r) 0 then again t4 else Goes 0 t4) else again t3))
 
 abbrev pub looping_by_hand : World → (line : ℕ) → Tape → ℕ → Outcome Halt
 looping_by_hand w line tape n =
-    then_do (ask w (Enter 0) line tape) (λ base t. then_do (turns_by_hand w n t) (λ r t'. Goes (Finished 0 base 6) t'))
+    then_do (ask w (Enter 0) line tape) (λ base t. then_do (tested_by_hand w (turns_by_hand w n) t) (λ r t'. Goes (Finished 0 base 6) t'))
 
 -- ---- a call: `return next(getchar());`, where `int next(int a) { return a + 1; }`
 
