@@ -6,3 +6,4 @@ pub mod Plans
 pub mod Parts
 pub mod Worked
 pub mod Whole
+pub mod Equations

@@ -15,24 +15,8 @@ use Rattle.css_blocks.specs.Programs.{returned, run_of, calls_of}
 use Rattle.css_blocks.specs.Finds.{AreFound, Fit}
 use Rattle.css_blocks.specs.Correct.{SameDialogue, Behaves}
 use Rattle.css_blocks.specs.Samples.{choosing, choosing_by_hand, looping_body, looping_step, looping_function, looping, tested_by_hand, turns_by_hand, looping_by_hand, next, calling, calling_by_hand, task, submitting, submitting_by_hand}
+use Rattle.css_blocks.proofs.Equations.{then_assoc, then_same, if_then, fault_then}
 use Rattle.css_blocks.proofs.Programs.{behaves}
-
-pub then_assoc : {A B C : Type 0} (o : Outcome A) (f : A → Tape → Outcome B) (g : B → Tape → Outcome C) → then_do (then_do o f) g ≡ then_do o (λ a t. then_do (f a t) g)
-then_assoc (Goes a t) f g = refl
-then_assoc (Stops why t) f g = refl
-
-pub then_same : {A B : Type 0} (o : Outcome A) {f g : A → Tape → Outcome B} → ((a : A) (t : Tape) → f a t ≡ g a t) → then_do o f ≡ then_do o g
-then_same (Goes a t) e = e a t
-then_same (Stops why t) e = refl
-
-pub if_then : {A B : Type 0} (b : Bool) (x y : Outcome A) (f : A → Tape → Outcome B) → then_do (if b then x else y) f ≡ (if b then then_do x f else then_do y f)
-if_then true x y f = refl
-if_then false x y f = refl
-
-pub fault_then : {A B : Type 0} (reply : Reply) (kind : FaultKind) (i : Item) (t : Tape) (f : A → Tape → Outcome B) → then_do (at_fault reply kind i t) f ≡ at_fault reply kind i t
-fault_then (Says value) kind i t f = refl
-fault_then Fails kind i t f = refl
-fault_then (Refuses rule) kind i t f = refl
 
 -- the same dialogue, written otherwise
 pub same_as : {A : Type 0} {from from' to : ℕ → Outcome A} → ((n : ℕ) → from n ≡ from' n) → SameDialogue from to → SameDialogue from' to

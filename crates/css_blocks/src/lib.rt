@@ -9,7 +9,10 @@ mod part;
 mod samples;
 
 pub use build::{add, caught, choice, looped, row, when};
-pub use laws::{bodies_are_sound, code_has_the_dialogue, code_is_sound, tapes_of_pieces_grow};
+pub use laws::{
+    bodies_are_sound, calls_find_their_arguments, code_has_the_dialogue, code_is_sound,
+    tapes_of_pieces_grow, tasks_calls_find_their_dimensions,
+};
 pub use lowering::{body_of, lower, size_of};
 pub use part::{Part, Targets, Way};
 pub use samples::{a_call, a_choice, a_loop, a_tasks_call};
