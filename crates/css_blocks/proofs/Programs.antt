@@ -300,6 +300,6 @@ behaves p fit = record {
 pub tapes_grow : (p : Program) → Fit p → (w : World) (k : ℕ) (arguments : List ℕ) (line : ℕ) (t : Tape) (n : ℕ) → Grows t (run_of w p k arguments line t n)
 tapes_grow p fit w k arguments line t n =
     let r = reached (run_of w p k arguments line t) (λ n. exec w (code_of p) n (Begin k arguments line) t)
-        (λ n m. extends_exec w (code_of p) n m (Begin k arguments line) t) (λ n. begun_runs w p fit n k (slice_get p.functions k) refl arguments line t)
-        n (run_of w p k arguments line t n) (begun_runs w p fit n k (slice_get p.functions k) refl arguments line t).by in
+    (λ n m. extends_exec w (code_of p) n m (Begin k arguments line) t) (λ n. begun_runs w p fit n k (slice_get p.functions k) refl arguments line t)
+    n (run_of w p k arguments line t n) (begun_runs w p fit n k (slice_get p.functions k) refl arguments line t).by in
     subst (Grows t) r.2 (grows_exec w (code_of p) r.0 (Begin k arguments line) t)

@@ -53,10 +53,10 @@ looping_fits zero f at =
     let found : AreFound (code_of looping) _ = record {
       finds = (
         (
-          (((refl, omega arith, tt), tt), (omega arith, refl)),
+          (((refl, omega arith, tt), tt), ((omega arith, refl), tt)),
           (
             ((refl, omega arith, tt), ((omega arith, refl, refl), ((refl, omega arith, tt), ((omega arith, refl, refl), tt)))),
-            ((refl, omega arith, tt), ((refl, omega arith, tt), ((refl, omega arith, tt), tt))),
+            (((refl, omega arith, tt), ((refl, omega arith, tt), ((refl, omega arith, tt), tt))), tt),
           ),
           refl,
         ),
@@ -69,10 +69,10 @@ looping_fits (suc k) f at = cc
 
 module _ (w : World) (calls : Calls) (m base : ℕ) where
   abbrev first : Does
-  first = means w calls m base (Then (row (Do 2 ops.In ∷ [])) (Unless 2 Breaks))
+  first = means w calls m base (row (row (Do 2 ops.In ∷ []) ∷ Unless 2 Breaks ∷ []))
 
   abbrev second : Does
-  second = means w calls m base (Then (Catch Continues looping_body) looping_step)
+  second = means w calls m base (row (Catch Continues looping_body ∷ looping_step ∷ []))
 
   turns_mean : (n : ℕ) (t : Tape) → turns w 2 n first second Plain [] t ≡ then_do (turns_by_hand w n t) (λ r t'. Goes (Jumps Breaks Plain []) t')
   turns_mean zero t = refl

@@ -53,11 +53,11 @@ is_plain Returning = false
 
 -- tests before each turn of the body, and takes a step behind it
 abbrev pub while_loop : (line : ℕ) (test body step : Piece) → Piece
-while_loop line test body step = Catch Breaks (Loop line (Then test (Unless line Breaks)) (Then (Catch Continues body) step))
+while_loop line test body step = Catch Breaks (Loop line (row (test ∷ Unless line Breaks ∷ [])) (row (Catch Continues body ∷ step ∷ [])))
 
--- tests behind each turn
+-- tests behind each turn and its step
 abbrev pub do_loop : (line : ℕ) (body step test : Piece) → Piece
-do_loop line body step test = Catch Breaks (Loop line Skip (Then (Catch Continues body) (Then step (Then test (Unless line Breaks)))))
+do_loop line body step test = Catch Breaks (Loop line (row []) (row (Catch Continues body ∷ step ∷ test ∷ Unless line Breaks ∷ [])))
 
 -- what is given for each way out
 pub record Ways (A : Type 0) : Type 0 where

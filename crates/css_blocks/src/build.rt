@@ -83,3 +83,52 @@ pub fn caught(alloc: Global, way: Way, inside: Part) -> Result<Part, NoMemory>
     let size = size_of(&inside)?;
     Ok(Part::Catch(way, size, Box::new(alloc, inside)?))
 }
+
+/// A loop that tests before each turn of its body, and takes a step behind it. The test gives a cell; `continue` leads to the step.
+pub fn while_loop(
+    alloc: Global,
+    line: Line,
+    test: Part,
+    body: Part,
+    step: Part,
+) -> Result<Part, NoMemory>
+    requires test { IsSized test }
+    requires body { IsSized body }
+    requires step { IsSized step }
+    ensures sized { IfOk result IsSized }
+    ensures makes { IfOk result (λ p. shape p ≡ pieces.while_loop line (shape test) (shape body) (shape step)) }
+{
+    let turn = caught(alloc, Way::Continues, body)?;
+    let mut first = Vec::new(alloc);
+    add(&mut first, test)?;
+    add(&mut first, Part::Unless(line, Way::Breaks))?;
+    let mut second = Vec::new(alloc);
+    add(&mut second, turn)?;
+    add(&mut second, step)?;
+    let inside = looped(alloc, line, row(first), row(second))?;
+    caught(alloc, Way::Breaks, inside)
+}
+
+/// A loop that takes a step and tests behind each turn of its body.
+pub fn do_loop(
+    alloc: Global,
+    line: Line,
+    body: Part,
+    step: Part,
+    test: Part,
+) -> Result<Part, NoMemory>
+    requires body { IsSized body }
+    requires step { IsSized step }
+    requires test { IsSized test }
+    ensures sized { IfOk result IsSized }
+    ensures makes { IfOk result (λ p. shape p ≡ pieces.do_loop line (shape body) (shape step) (shape test)) }
+{
+    let turn = caught(alloc, Way::Continues, body)?;
+    let mut second = Vec::new(alloc);
+    add(&mut second, turn)?;
+    add(&mut second, step)?;
+    add(&mut second, test)?;
+    add(&mut second, Part::Unless(line, Way::Breaks))?;
+    let inside = looped(alloc, line, row(Vec::new(alloc)), row(second))?;
+    caught(alloc, Way::Breaks, inside)
+}

@@ -8,7 +8,7 @@ mod lowering;
 mod part;
 mod samples;
 
-pub use build::{add, caught, choice, looped, row, when};
+pub use build::{add, caught, choice, do_loop, looped, row, when, while_loop};
 pub use laws::{
     bodies_are_sound, calls_find_their_arguments, code_has_the_dialogue, code_is_sound,
     tapes_of_pieces_grow, tasks_calls_find_their_dimensions,
