@@ -1,5 +1,5 @@
 -- The machine follows a piece: each of them once.
-use Rattle.std.proofs.Common.{◌≡◌, ℕ, zero, suc, ◌+◌, ◌-◌, ◌≤◌, Bool, true, false, List, [], ◌∷◌, ◌++◌, length, take, drop, reverse, Option, Some, None, refl, sym, ap, ◌∙◌, subst, ⊎_elim, arith, length-append}
+use Rattle.std.proofs.Common.{◌≡◌, ℕ, zero, suc, ◌+◌, ◌≤◌, Bool, true, false, List, [], ◌∷◌, ◌++◌, length, take, drop, reverse, Option, Some, None, refl, sym, ap, ◌∙◌, subst, arith, length-append}
 use Rattle.std.specs.Prelude.{slice_get, nat_eq, nat_le, if◌then◌else◌}
 use Rattle.css_base.specs.declared.ending.FaultKind.{FaultKind}
 use Rattle.css_semantics.specs.Dialogue.{Turn, WaitFault, DimFault, Item, item_in, Reply, Says, Fails, Refuses, Tape, World, Outcome, Goes, then_do, Mode, Plain, Waiting, Measuring, at_fault, fault_in, ask_in}
@@ -16,9 +16,9 @@ use Rattle.css_isa.specs.Machine.{exec}
 use Rattle.css_blocks.specs.declared.part.Way.{Way}
 use Rattle.css_blocks.specs.declared.part.Way.TheVariants.{Breaks, Continues}
 use Rattle.css_blocks.specs.Pieces.{Piece, Skip, Then, Do, Choice, When, Loop, Catch, Exit, Unless, Invoke, Submit, Leave, is_plain, Ways, at_way, aimed}
-use Rattle.css_blocks.specs.Meaning.{Exits, Falls, Jumps, Returns, Sticks, Does, on_fall, caught, on_top, on_many, worked, acts, turns, Calls, given, means}
+use Rattle.css_blocks.specs.Meaning.{Exits, Falls, Jumps, Returns, Sticks, Does, on_fall, caught, worked, acts, turns, Calls, given, means}
 use Rattle.css_blocks.specs.Layout.{size, instr, lower}
-use Rattle.css_blocks.specs.Finds.{Level, below, behind, Takes, IsTask, Finds}
+use Rattle.css_blocks.specs.Finds.{Level, Takes, IsTask, Finds}
 use Rattle.css_blocks.proofs.Runs.{Runs, runs_done, runs_step, runs_less, runs_fewer, runs_then, runs_moves, runs_asks}
 use Rattle.css_blocks.proofs.Stands.{HasAt, has_front, has_back, Running, activation_in, From, StepAt, one_step, runs_moves_on}
 

@@ -1,9 +1,8 @@
 -- The levels and ranks of a piece, and that its instructions go on as they say: each piece once.
-use Rattle.std.proofs.Common.{◌≡◌, ℕ, zero, suc, ◌+◌, ◌-◌, ◌<◌, ◌≤◌, pos, List, [], ◌∷◌, ◌++◌, length, map, true, Option, Some, refl, sym, ap, ◌∙◌, subst, arith, length-append, max}
+use Rattle.std.proofs.Common.{◌≡◌, ℕ, zero, suc, ◌+◌, ◌-◌, ◌<◌, ◌≤◌, pos, List, [], ◌∷◌, ◌++◌, length, map, true, Some, refl, sym, ap, ◌∙◌, subst, arith, length-append, max}
 use Rattle.std.specs.Prelude.{slice_get}
-use Rattle.css_semantics.specs.Dialogue.{Mode, Plain}
+use Rattle.css_semantics.specs.Dialogue.{Plain}
 use Rattle.css_isa.specs.declared.code.Instr.{Instr}
-use Rattle.css_isa.specs.declared.code.Op.{Op}
 use Rattle.css_isa.specs.declared.code.Op.TheVariants as ops
 use Rattle.css_isa.specs.Code.{Code}
 use Rattle.css_isa.specs.Roles.{Role, Straight, Turning, Outward, Telling, Awaiting, Changing, Testing, Jumping, Branching, Calling, Submitting, Returning, role_of}
@@ -11,7 +10,7 @@ use Rattle.css_isa.specs.Soundness.{Spot, Plan, spot_at, Stays, Leads, arguments
 use Rattle.css_blocks.specs.declared.part.Way.{Way}
 use Rattle.css_blocks.specs.declared.part.Way.TheVariants.{Breaks, Continues}
 use Rattle.css_blocks.specs.Pieces.{Piece, Skip, Then, Do, Choice, When, Loop, Catch, Exit, Unless, Invoke, Submit, Leave, is_plain, Ways, at_way, both, aimed}
-use Rattle.css_blocks.specs.Layout.{size, instr, lower, Function, ended, routine_of}
+use Rattle.css_blocks.specs.Layout.{size, instr, lower, Function, routine_of}
 use Rattle.css_blocks.specs.Finds.{Level, level, ground, below, mode_behind, behind, Finds, AreFound}
 use Rattle.css_blocks.proofs.Stands.{HasAt, has_front, has_back, has_all}
 use Rattle.css_blocks.proofs.Pieces.{length-lower}

@@ -1,5 +1,5 @@
 -- The machine follows a call, and so a whole program of pieces.
-use Rattle.std.proofs.Common.{◌≡◌, ℕ, zero, suc, ◌+◌, ◌-◌, ◌≤◌, pos, Bool, true, false, List, [], ◌∷◌, ◌++◌, length, take, drop, reverse, map, Option, Some, None, refl, sym, ap, ◌∙◌, subst, arith}
+use Rattle.std.proofs.Common.{◌≡◌, ℕ, zero, suc, ◌+◌, ◌-◌, ◌≤◌, pos, Bool, true, false, List, [], ◌∷◌, length, take, drop, reverse, map, Option, Some, None, refl, sym, ap, ◌∙◌, subst, arith}
 use Rattle.std.specs.Prelude.{slice_get, nat_le, if◌then◌else◌}
 use Rattle.css_base.specs.declared.ending.Stop.{Stop}
 use Rattle.css_semantics.specs.Dialogue as dialogue
@@ -7,7 +7,6 @@ use Rattle.css_semantics.specs.Dialogue.{Action, Item, item, Reply, Says, Fails,
 use Rattle.css_semantics.specs.Tasks.{is_started}
 use Rattle.css_isa.specs.Cells.{int_of}
 use Rattle.css_isa.specs.declared.code.Op.TheVariants as ops
-use Rattle.css_isa.specs.declared.code.Instr.{Instr}
 use Rattle.css_isa.specs.Code.{Routine, Shape, Code, call_of}
 use Rattle.css_isa.specs.Steps as steps
 use Rattle.css_isa.specs.Steps.{Caller, State, Begin, At, Halt, Finished, Stuck, Step, on_function, entered, left, given_back, done}
@@ -19,10 +18,10 @@ use Rattle.css_blocks.specs.Pieces.{both}
 use Rattle.css_blocks.specs.Meaning.{Exits, Falls, Jumps, Returns, Sticks, Calls, means}
 use Rattle.css_blocks.specs.Layout.{size, instr, lower, Function, Program, ended, routine_of, code_of}
 use Rattle.css_blocks.specs.Programs.{returned, applied, gone, called, behind_call, submitted_as, submitted, calls_of, begun, run_of}
-use Rattle.css_blocks.specs.Finds.{ground, Takes, IsTask, AreFound, Fit}
+use Rattle.css_blocks.specs.Finds.{ground, AreFound, Fit}
 use Rattle.css_blocks.specs.Correct.{SameDialogue, Behaves}
 use Rattle.css_blocks.proofs.Runs.{Runs, RunsTo, runs_done, runs_step, runs_less, runs_then, runs_moves, runs_asks}
-use Rattle.css_blocks.proofs.Stands.{HasAt, has_front, has_all, Running, activation_in, From, StepAt, one_step}
+use Rattle.css_blocks.proofs.Stands.{HasAt, has_front, has_all, Running, activation_in, From, one_step}
 use Rattle.css_blocks.proofs.Pieces.{has_next, Given, LeftTo, Lands, lands_at, CallsRun, submit_step, SubmitBy, piece_runs}
 
 abbrev routine_at : Option Function → Option Routine

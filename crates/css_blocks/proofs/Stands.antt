@@ -1,5 +1,5 @@
 -- What stands at a place of a list, and steps of the machine there.
-use Rattle.std.proofs.Common.{◌≡◌, ℕ, zero, suc, ◌+◌, ◌<◌, Bool, List, [], ◌∷◌, ◌++◌, length, Option, Some, refl, ap, ◌∙◌, subst, arith, append_assoc, length-append}
+use Rattle.std.proofs.Common.{◌≡◌, ℕ, suc, ◌+◌, ◌<◌, Bool, List, [], ◌∷◌, ◌++◌, length, Some, ap, ◌∙◌, subst, arith, append_assoc, length-append}
 use Rattle.std.specs.Prelude.{slice_get}
 use Rattle.std.proofs.Math.Seq.{get_or-append_seam}
 use Rattle.std.proofs.lemmas.Option.{slice_get-get_or}
@@ -7,7 +7,7 @@ use Rattle.css_semantics.specs.Dialogue.{Tape, World, Outcome, Goes, Mode}
 use Rattle.css_isa.specs.declared.code.Instr.{Instr}
 use Rattle.css_isa.specs.Code.{Routine, Code}
 use Rattle.css_isa.specs.Roles.{role_of}
-use Rattle.css_isa.specs.Steps.{Activation, Caller, State, At, Halt, Step, Moves, act, at_instr, on_function, done}
+use Rattle.css_isa.specs.Steps.{Activation, Caller, At, Halt, Step, Moves, act, at_instr, on_function, done}
 use Rattle.css_isa.specs.Machine.{exec}
 use Rattle.css_blocks.proofs.Runs.{Runs, runs_step}
 

@@ -1,13 +1,13 @@
 -- Code of a whole program of pieces is sound.
-use Rattle.std.proofs.Common.{◌≡◌, ℕ, zero, suc, ◌+◌, ◌≤◌, pos, List, [], ◌∷◌, ◌++◌, map, All, Option, Some, refl, sym, ap, ◌∙◌, subst, arith}
+use Rattle.std.proofs.Common.{◌≡◌, ℕ, zero, suc, ◌+◌, pos, List, [], ◌∷◌, ◌++◌, map, All, Some, refl, ap, ◌∙◌, subst, arith}
 use Rattle.std.specs.Prelude.{slice_get}
 use Rattle.std.proofs.lemmas.List.Elements.{All-nil, All-cons}
 use Rattle.css_isa.specs.declared.code.Instr.{Instr}
 use Rattle.css_isa.specs.declared.code.Op.TheVariants as ops
-use Rattle.css_isa.specs.Code.{Routine, Shape, Code}
-use Rattle.css_isa.specs.Soundness.{Plan, IsQuiet, IsReached, IsShapeOf, IsSoundBody, IsSound}
+use Rattle.css_isa.specs.Code.{Code}
+use Rattle.css_isa.specs.Soundness.{IsQuiet, IsShapeOf, IsSoundBody, IsSound}
 use Rattle.css_blocks.specs.Pieces.{Piece, Skip, Then, Do, Choice, When, Loop, Catch, Exit, Unless, Invoke, Submit, Leave, Ways, both, aimed}
-use Rattle.css_blocks.specs.Layout.{size, instr, lower, Function, Program, ended, routine_of, code_of}
+use Rattle.css_blocks.specs.Layout.{size, instr, lower, Program, ended, routine_of, code_of}
 use Rattle.css_blocks.specs.Finds.{MakesNoEvents, IsWhole}
 use Rattle.css_blocks.proofs.Plans.{plan_of, body_sound}
 

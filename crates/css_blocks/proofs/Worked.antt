@@ -1,19 +1,16 @@
 -- The worked constructs.
-use Rattle.std.proofs.Common.{◌≡◌, ℕ, zero, suc, ◌+◌, ◌≤◌, Bool, true, false, List, [], ◌∷◌, Option, Some, None, refl, sym, ap, ◌∙◌, subst, arith}
-use Rattle.std.specs.Prelude.{nat_eq, slice_get, if◌then◌else◌}
-use Rattle.css_base.specs.declared.ending.FaultKind.{FaultKind}
-use Rattle.css_base.specs.declared.ending.Stop.{Stop}
-use Rattle.css_semantics.specs.Dialogue.{World, Tape, Item, Reply, Says, Fails, Refuses, Outcome, Goes, Stops, Stopped, Tired, then_do, Plain, ask, at_fault}
-use Rattle.css_isa.specs.Steps.{Halt, Finished, Begin, entered}
+use Rattle.std.proofs.Common.{◌≡◌, ℕ, zero, suc, [], ◌∷◌, Some, refl, sym, ap, ◌∙◌, subst, arith}
+use Rattle.css_semantics.specs.Dialogue.{World, Tape, Outcome, Goes, then_do, Plain}
+use Rattle.css_isa.specs.Steps.{Finished, Begin, entered}
 use Rattle.css_isa.specs.Machine.{exec}
 use Rattle.css_isa.specs.declared.code.Op.TheVariants as ops
 use Rattle.css_blocks.specs.declared.part.Way.TheVariants.{Breaks, Continues}
-use Rattle.css_blocks.specs.Pieces.{Skip, Then, Do, Catch, Unless, row}
+use Rattle.css_blocks.specs.Pieces.{Skip, Do, Catch, Unless, row}
 use Rattle.css_blocks.specs.Meaning.{Calls, Does, Jumps, on_fall, caught, turns, means}
-use Rattle.css_blocks.specs.Layout.{Function, Program, routine_of, code_of}
+use Rattle.css_blocks.specs.Layout.{routine_of, code_of}
 use Rattle.css_blocks.specs.Programs.{returned, run_of, calls_of}
 use Rattle.css_blocks.specs.Finds.{AreFound, Fit}
-use Rattle.css_blocks.specs.Correct.{SameDialogue, Behaves}
+use Rattle.css_blocks.specs.Correct.{SameDialogue}
 use Rattle.css_blocks.specs.Samples.{choosing, choosing_by_hand, looping_body, looping_step, looping_function, looping, tested_by_hand, turns_by_hand, looping_by_hand, next, calling, calling_by_hand, task, submitting, submitting_by_hand}
 use Rattle.css_blocks.proofs.Equations.{then_assoc, then_same, if_then, fault_then}
 use Rattle.css_blocks.proofs.Programs.{behaves}

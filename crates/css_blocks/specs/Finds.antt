@@ -1,9 +1,9 @@
 -- That a piece finds its cells and functions, and stands in a mode in which it may: what each construct of a language owes.
-use Rattle.std.specs.Prelude.{◌≡◌, ℕ, ◌+◌, ◌-◌, ◌≤◌, Bool, true, List, [], All, length, Some, slice_get}
+use Rattle.std.specs.Prelude.{◌≡◌, ℕ, ◌+◌, ◌-◌, ◌≤◌, true, [], All, length, Some, slice_get}
 use Rattle.css_semantics.specs.Dialogue.{Mode, Plain}
 use Rattle.css_semantics.specs.Memory.{first_global}
 use Rattle.css_isa.specs.Code.{Routine, Shape, Code, all_dimensions}
-use Rattle.css_isa.specs.Roles.{Role, Straight, Turning, Outward, Telling, Awaiting, Changing, Testing, Jumping, Branching, Calling, Submitting, Returning, role_of}
+use Rattle.css_isa.specs.Roles.{Role, Changing, role_of}
 use Rattle.css_isa.specs.Soundness.{needs, height_behind, IsPlainAt, IsQuiet, IsShapeOf, IsReached, IsWithin}
 use Rattle.css_blocks.specs.Pieces.{Piece, Skip, Then, Do, Choice, When, Loop, Catch, Exit, Unless, Invoke, Submit, Leave, is_plain, Ways, at_way, both, aimed}
 use Rattle.css_blocks.specs.Layout.{Function, Program, routine_of, code_of}

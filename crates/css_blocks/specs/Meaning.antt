@@ -1,5 +1,5 @@
 -- What a piece means: what it asks a world, and what becomes of the operand cells and the mode.
-use Rattle.std.specs.Prelude.{ℕ, zero, suc, ◌+◌, Bool, List, [], ◌∷◌, length, take, drop, reverse, Option, Some, None, nat_eq, nat_le, if◌then◌else◌}
+use Rattle.std.specs.Prelude.{ℕ, zero, suc, List, [], ◌∷◌, length, take, drop, reverse, Option, Some, None, nat_eq, nat_le, if◌then◌else◌}
 use Rattle.css_semantics.specs.Dialogue.{Turn, Tape, World, Outcome, Goes, Stops, Tired, then_do, Mode, ask_in, fault_in}
 use Rattle.css_isa.specs.declared.code.Op.{Op}
 use Rattle.css_isa.specs.Cells.{cell_as}

@@ -1,9 +1,8 @@
 -- Worked constructs, each beside its dialogue written by hand.
-use Rattle.std.specs.Prelude.{ℕ, zero, suc, ◌%◌, ◌^◌, pos, false, List, [], ◌∷◌, Option, Some, None, nat_eq, if◌then◌else◌}
+use Rattle.std.specs.Prelude.{ℕ, zero, suc, ◌%◌, ◌^◌, pos, false, List, [], ◌∷◌, Some, None, nat_eq, if◌then◌else◌}
 use Rattle.css_base.specs.declared.direction.Direction.TheVariants as directions
 use Rattle.css_base.specs.declared.int_type.IntType.TheVariants as types
 use Rattle.css_base.specs.declared.ending.FaultKind.TheVariants.{DivideByZero}
-use Rattle.css_semantics.specs.Dialogue as dialogue
 use Rattle.css_semantics.specs.Dialogue.{Enter, Leave, Turn, In, Out, Load, Store, DimFault, World, Tape, Outcome, Goes, Stops, Tired, then_do, Measuring, item_in, at_fault, ask}
 use Rattle.css_semantics.specs.Memory.{big_endian_bytes}
 use Rattle.css_isa.specs.declared.code.ArgShape.TheVariants as shapes
@@ -11,7 +10,6 @@ use Rattle.css_isa.specs.declared.code.Op.TheVariants as ops
 use Rattle.css_isa.specs.declared.code.Mark.TheVariants as marks
 use Rattle.css_isa.specs.declared.code.Conversion.TheVariants as conversions
 use Rattle.css_isa.specs.Cells.{cell_as, sum_of, address_of}
-use Rattle.css_isa.specs.Code.{Shape}
 use Rattle.css_isa.specs.Steps.{Halt, Finished, makes_tasks}
 use Rattle.css_blocks.specs.declared.part.Way.TheVariants.{Breaks, Continues}
 use Rattle.css_blocks.specs.Pieces as pieces

@@ -1,10 +1,10 @@
-use Rattle.std.proofs.Common.{rules, ◌≡◌, ◌++◌, ◌+◌, length, ap, sym, ◌∙◌, subst, arith}
+use Rattle.std.proofs.Common.{rules, ◌++◌, length, ap, sym, ◌∙◌, subst, arith}
 use Rattle.std.proofs.lemmas.Result.{on_ok_weaker}
 use Rattle.css_blocks.specs.declared.part.Part.{the_lemmas}
-use Rattle.css_blocks.specs.Pieces.{Choice, When, Loop, Catch}
+use Rattle.css_blocks.specs.Pieces.{Choice, Loop}
 use Rattle.css_blocks.specs.Layout.{size, lower}
 use Rattle.css_blocks.specs.Parts.{shape, IsSized, ways_of}
-use Rattle.css_blocks.proofs.Parts.{item_sized, one_more_lowered, row_lowered, choice_lowered, when_lowered, loop_lowered, catch_lowered}
+use Rattle.css_blocks.proofs.Parts.{item_sized, one_more_lowered, row_lowered, choice_lowered, loop_lowered}
 use Rattle.css_blocks.proofs.lowering.+lower.Goals as goal
 
 pub lower-requires : goal.lower-requires
