@@ -71,7 +71,7 @@ module _ (w w' : World) (Comes : Tape → Type 0) (follows : Follows w w' Comes)
       fronts = λ t comes. both_then (d t) (d' t) go go' (first.fronts t comes) next;
     };
     asks = λ mode action line may. front_ask mode action line;
-    faults = λ A mode kind line. record { grows = grows_fault A w' mode kind line; fronts = front_fault A mode kind line };
+    faults = λ A mode kind line may. record { grows = grows_fault A w' mode kind line; fronts = front_fault A mode kind line };
     cases = λ {d} {d'} {e} {e'} first second. record {
       grows = λ t. grows_if (makes_tasks t) (d' t) (e' t) t (first.grows t) (second.grows t);
       fronts = λ t comes. both_if (makes_tasks t) (d t) (d' t) (e t) (e' t) (first.fronts t comes) (second.fronts t comes);

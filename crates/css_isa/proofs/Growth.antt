@@ -1,12 +1,12 @@
 -- Tapes only grow, and more steps only go on where fewer end.
-use Rattle.std.proofs.Common.{◌≡◌, ℕ, zero, suc, ◌+◌, Bool, true, false, if◌then◌else◌, [], ◌∷◌, ◌++◌, refl, sym, ap, ◌∙◌, subst, append_assoc, arith}
+use Rattle.std.proofs.Common.{◌≡◌, ℕ, ◌+◌, Bool, true, false, if◌then◌else◌, [], ◌∷◌, ◌++◌, refl, sym, ap, ◌∙◌, subst, append_assoc, arith}
 use Rattle.css_base.specs.declared.ending.FaultKind.{FaultKind}
 use Rattle.css_base.specs.declared.ending.FaultKind.TheVariants.{OutsideMemory}
-use Rattle.css_semantics.specs.Dialogue.{Action, Fault, WaitFault, DimFault, Item, item, item_in, Tape, Reply, Says, Fails, Refuses, World, Outcome, Goes, Stops, Stopped, Tired, tape_of, then_do, Mode, Plain, Waiting, Measuring, at_fault, fault_in, replied_in, ask_in}
+use Rattle.css_semantics.specs.Dialogue.{Action, Fault, WaitFault, DimFault, Item, item, item_in, Tape, Reply, Says, Fails, Refuses, World, Outcome, Goes, Stops, Stopped, Tired, then_do, Mode, Plain, Waiting, Measuring, at_fault, fault_in, replied_in, ask_in}
 use Rattle.css_isa.specs.Code.{Code}
 use Rattle.css_isa.specs.Steps.{State, Halt, Step, Moves, Requests, Notifies, Fails as AtFault, Tests, Enters, Leaves, Submits, Halts, makes_tasks, step_of}
 use Rattle.css_isa.specs.Machine.{exec}
-use Rattle.css_isa.specs.Walks.{Relation, IsKept, MayEnter, Keeps, IsClosed}
+use Rattle.css_isa.specs.Walks.{Relation, IsKept, Keeps, IsClosed}
 use Rattle.css_isa.specs.Runs.{Extends, Grows}
 use Rattle.css_isa.proofs.Walk.{kept_exec}
 
@@ -25,7 +25,7 @@ all_keep (Notifies mode action line next) = (tt, tt)
 all_keep (AtFault mode kind line) = tt
 all_keep (Tests begun other) = (tt, tt)
 all_keep (Enters function f is_task arguments line callers) = (record { enters = tt; stores = λ address bytes. tt }, λ base. tt)
-all_keep (Leaves base size is_task line next) = (tt, tt, tt)
+all_keep (Leaves base size is_task line next) = (tt, (λ e. tt), tt)
 all_keep (Submits call function f arguments line callers next) = (tt, tt, record { enters = tt; stores = λ address bytes. tt }, (λ base. tt), tt)
 all_keep (Halts halt) = tt
 
@@ -88,7 +88,7 @@ more_kept w = record {
   goes = λ a t. (refl, ([], refl));
   binds = λ {d} {d'} {go} {go'} first next t. (extends_then (d t) (d' t) go go' (first t).0 (λ a t'. (next a t').0) (λ a t'. (next a t').1), grows_then (d' t) go' t (first t).1 (λ a t'. (next a t').1));
   asks = λ mode action line may t. (extends_same (ask_in w mode action line t), grows_ask w mode action line t);
-  faults = λ A mode kind line t. (extends_same (fault_in w mode kind line t), grows_fault A w mode kind line t);
+  faults = λ A mode kind line may t. (extends_same (fault_in w mode kind line t), grows_fault A w mode kind line t);
   cases = λ {d} {d'} {e} {e'} first second t. (extends_if (makes_tasks t) (d t) (d' t) (e t) (e' t) (first t).0 (second t).0, grows_if (makes_tasks t) (d' t) (e' t) t (first t).1 (second t).1);
 }
 

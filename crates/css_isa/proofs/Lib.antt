@@ -4,3 +4,8 @@ pub mod Walk
 pub mod Growth
 pub mod Following
 pub mod OneStep
+pub mod Fitting
+pub mod Onward
+pub mod NeverStuck
+pub mod Quiet
+pub mod QuietRuns

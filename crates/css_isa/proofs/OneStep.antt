@@ -1,5 +1,5 @@
 -- A step, and what the machine does behind it.
-use Rattle.std.proofs.Common.{◌≡◌, ℕ, zero, suc, Bool, true, false, if◌then◌else◌, List, refl, ap, ◌∙◌}
+use Rattle.std.proofs.Common.{◌≡◌, ℕ, zero, suc, Bool, true, false, if◌then◌else◌, List, refl, ◌∙◌}
 use Rattle.css_base.specs.declared.ending.FaultKind.{FaultKind}
 use Rattle.css_semantics.specs.Dialogue.{Calls, Returns, Says, Fails, Refuses, Reply, Item, item_in, WaitFault, DimFault, Tape, World, Outcome, Goes, Stops, then_do, Mode, Plain, Waiting, Measuring, at_fault, ask, ask_in, fault_in}
 use Rattle.css_isa.specs.Code.{Routine}

@@ -20,8 +20,8 @@ module _ (R : Relation) (May : Mode → Action → Type 0) (w w' : World) (kept 
   kept_entered f arguments line may =
       kept.binds (kept.asks Plain (Enter f.frame) line may.enters) (λ base. kept.binds (kept_stores base f.parameters arguments line may.stores) (λ r. kept.goes base))
 
-  pub kept_left : (base size : ℕ) (is_task : Bool) (line : ℕ) → May Plain (Leave base size) → May Plain Returns → R ℕ (left w base size is_task line) (left w' base size is_task line)
-  kept_left base size true line leaves returns = kept.binds (kept.asks Plain (Leave base size) line leaves) (λ r. kept.asks Plain Returns line returns)
+  pub kept_left : (base size : ℕ) (is_task : Bool) (line : ℕ) → May Plain (Leave base size) → (is_task ≡ true → May Plain Returns) → R ℕ (left w base size is_task line) (left w' base size is_task line)
+  kept_left base size true line leaves returns = kept.binds (kept.asks Plain (Leave base size) line leaves) (λ r. kept.asks Plain Returns line (returns refl))
   kept_left base size false line leaves returns = kept.binds (kept.asks Plain (Leave base size) line leaves) (λ r. kept.goes 0)
 
   module _ (Good : State → Type 0) {A : Type 0} (on on' : State → Tape → Outcome A) (ends ends' : Halt → Tape → Outcome A) (goes_on : (s : State) → Good s → R A (on s) (on' s)) (ends_too : (halt : Halt) → R A (ends halt) (ends' halt)) where
@@ -40,7 +40,7 @@ module _ (R : Relation) (May : Mode → Action → Type 0) (w w' : World) (kept 
     kept_done (Moves next) good = goes_on next good
     kept_done (Requests mode action line t next) good = kept.binds (kept.asks mode action line good.0) (λ r. goes_on _ (good.1 r))
     kept_done (Notifies mode action line next) good = kept.binds (kept.asks mode action line good.0) (λ r. goes_on next good.1)
-    kept_done (Fails mode kind line) good = kept.faults A mode kind line
+    kept_done (Fails mode kind line) good = kept.faults A mode kind line good
     kept_done (Tests begun other) good = kept.cases (goes_on begun good.0) (goes_on other good.1)
     kept_done (Enters function f is_task arguments line callers) good = kept_entering function f is_task arguments line callers good.0 good.1
     kept_done (Leaves base size is_task line next) good = kept.binds (kept_left base size is_task line good.0 good.1) (λ r. goes_on next good.2)

@@ -10,3 +10,5 @@ pub mod Soundness
 pub mod Worked
 pub mod Walks
 pub mod Runs
+pub mod Fitting
+pub mod Quiet

@@ -1,5 +1,5 @@
 -- What the code's effect of an instruction stands for.
-use Rattle.std.specs.Prelude.{◌≡◌, ℕ, ◌≤◌, Bool, true, false, List, [], ◌∷◌, drop, length}
+use Rattle.std.specs.Prelude.{ℕ, Bool, true, false, List, ◌∷◌, drop}
 use Rattle.css_base.specs.declared.int_type.IntType.TheVariants as types
 use Rattle.css_semantics.specs.Dialogue as dialogue
 use Rattle.css_semantics.specs.Memory.{big_endian_bytes}

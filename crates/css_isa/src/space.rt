@@ -19,8 +19,9 @@ pub enum Width {
     W64,
 }
 
-/// A memory with a stack of frames. Its meaning is how it replies to the actions of a memory, and what it becomes. No call
-/// takes memory.
+/// A memory with a stack of frames. Its meaning is how it replies to the actions of a memory, and what it becomes: so it says which
+/// bytes are there, in which regions, and which rules refuse to load, to store or to leave them. A store that isn't refused may lift
+/// such a rule from bytes: where a task's output is written, and where main stores into what tasks only read. No call takes memory.
 pub trait Space {
     ghost use Rattle.std.specs.Prelude.{ℕ};
     ghost use Rattle.css_semantics.specs.Dialogue.{Action, Reply};

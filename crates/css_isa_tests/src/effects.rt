@@ -4,6 +4,7 @@ use crate::checks::check_row;
 use css_isa::{
     Asked, Conversion, Mark, Narrow, Op, ShiftWidth, Worked, byte_count, effect, goes_on, needed,
 };
+use std::mem::size_of;
 
 // What an instruction does over a frame at 4096 with these cells, of which the top is the last; none where it lacks one.
 fn worked(op: Op, cells: &[u64]) -> Option<Worked> {
@@ -202,98 +203,98 @@ static OF_TWO: [(Op, [u64; 18]); 10] = [
     ),
 ];
 
-// What each division gives for these; none where the divisor is 0.
-static DIVIDED: [(Op, [Option<u64>; 18]); 4] = [
+// What each division gives for these; 0 stands where the divisor is 0, and it is a fault.
+static DIVIDED: [(Op, [u64; 18]); 4] = [
     (
         Op::Divs,
         [
-            None,
-            Some(0),
-            None,
-            Some(0xffff_ffff_ffff_ffff),
-            Some(0xffff_ffff_ffff_ffff),
-            Some(1),
-            Some(0),
-            Some(0xffff_ffff_ffff_ffff),
-            Some(0),
-            Some(0xffff_ffff_ffff_ffff),
-            Some(0xffff_ffff_ffff_0001),
-            Some(1),
-            Some(0x8000_0000),
-            Some(1),
-            Some(0),
-            Some(0x8000_0000_0000_0000),
-            Some(0xffff_ffff_ffff_ffff),
-            Some(0x3fff_ffff_ffff_ffff),
+            0,
+            0,
+            0,
+            0xffff_ffff_ffff_ffff,
+            0xffff_ffff_ffff_ffff,
+            1,
+            0,
+            0xffff_ffff_ffff_ffff,
+            0,
+            0xffff_ffff_ffff_ffff,
+            0xffff_ffff_ffff_0001,
+            1,
+            0x8000_0000,
+            1,
+            0,
+            0x8000_0000_0000_0000,
+            0xffff_ffff_ffff_ffff,
+            0x3fff_ffff_ffff_ffff,
         ],
     ),
     (
         Op::Divu,
         [
-            None,
-            Some(0),
-            None,
-            Some(0),
-            Some(0xffff_ffff_ffff_ffff),
-            Some(1),
-            Some(0),
-            Some(0x204_0810_2040_8101),
-            Some(0),
-            Some(0x2_0004_0008_000f),
-            Some(0),
-            Some(1),
-            Some(0),
-            Some(1),
-            Some(0),
-            Some(0),
-            Some(1),
-            Some(0x3fff_ffff_ffff_ffff),
+            0,
+            0,
+            0,
+            0,
+            0xffff_ffff_ffff_ffff,
+            1,
+            0,
+            0x204_0810_2040_8101,
+            0,
+            0x2_0004_0008_000f,
+            0,
+            1,
+            0,
+            1,
+            0,
+            0,
+            1,
+            0x3fff_ffff_ffff_ffff,
         ],
     ),
     (
         Op::Rems,
         [
-            None,
-            Some(0),
-            None,
-            Some(0),
-            Some(0),
-            Some(0),
-            Some(127),
-            Some(0xffff_ffff_ffff_ffff),
-            Some(255),
-            Some(0xffff_ffff_ffff_ffff),
-            Some(0),
-            Some(0),
-            Some(0),
-            Some(0),
-            Some(0x7fff_ffff_ffff_ffff),
-            Some(0),
-            Some(0xffff_ffff_ffff_ffff),
-            Some(1),
+            0,
+            0,
+            0,
+            0,
+            0,
+            0,
+            127,
+            0xffff_ffff_ffff_ffff,
+            255,
+            0xffff_ffff_ffff_ffff,
+            0,
+            0,
+            0,
+            0,
+            0x7fff_ffff_ffff_ffff,
+            0,
+            0xffff_ffff_ffff_ffff,
+            1,
         ],
     ),
     (
         Op::Remu,
         [
-            None,
-            Some(0),
-            None,
-            Some(1),
-            Some(0),
-            Some(0),
-            Some(127),
-            Some(1),
-            Some(255),
-            Some(15),
-            Some(0xffff),
-            Some(0),
-            Some(0xffff_ffff_8000_0000),
-            Some(0),
-            Some(0x7fff_ffff_ffff_ffff),
-            Some(0x8000_0000_0000_0000),
-            Some(1),
-            Some(1),
+            0,
+            0,
+            0,
+            1,
+            0,
+            0,
+            127,
+            1,
+            255,
+            15,
+            0xffff,
+            0,
+            0xffff_ffff_8000_0000,
+            0,
+            0x7fff_ffff_ffff_ffff,
+            0x8000_0000_0000_0000,
+            1,
+            1,
         ],
     ),
 ];
@@ -606,10 +607,16 @@ fn two_cells(rt: HostRuntime) {
     }
 }
 
-fn are_divided(op: Op, wanted: &[Option<u64>]) -> bool {
+fn are_divided(op: Op, wanted: &[u64]) -> bool {
     let mut right = true;
     for ((a, b), want) in PAIRS.iter().zip(wanted.iter()) {
-        right = right && given(op, &[5, *a, *b]) == *want;
+        let result = given(op, &[5, *a, *b]);
+        right = right
+            && if *b == 0 {
+                result == None
+            } else {
+                result == Some(*want)
+            };
     }
     right
 }
@@ -714,4 +721,9 @@ fn what_is_asked(rt: HostRuntime) {
     for (row, (op, want)) in ASKED.iter().enumerate() {
         check_row(&rt, row, number(*op) == *want);
     }
+}
+
+#[test]
+fn instructions_are_small(rt: HostRuntime) {
+    check_row(&rt, 0, size_of::<Op>() <= 16);
 }

@@ -5,3 +5,5 @@
 mod checks;
 #[cfg(test)]
 mod effects;
+#[cfg(test)]
+mod listings;
