@@ -1,15 +1,21 @@
 -- Code of a whole program of pieces is sound.
-use Rattle.std.proofs.Common.{◌≡◌, ℕ, zero, suc, ◌+◌, pos, List, [], ◌∷◌, ◌++◌, map, All, Some, refl, ap, ◌∙◌, subst, arith}
+use Rattle.std.proofs.Common.{◌≡◌, ℕ, zero, suc, ◌+◌, pos, List, [], ◌∷◌, ◌++◌, map, All, Some, refl, ap, ◌∙◌, subst, arith, ◌≢◌, length}
 use Rattle.std.specs.Prelude.{slice_get}
 use Rattle.std.proofs.lemmas.List.Elements.{All-nil, All-cons}
 use Rattle.css_isa.specs.declared.code.Instr.{Instr}
 use Rattle.css_isa.specs.declared.code.Op.TheVariants as ops
+use Rattle.css_semantics.specs.Dialogue.{World, Tape, Goes}
+use Rattle.css_isa.specs.Steps.{Begin, Stuck}
+use Rattle.css_isa.specs.Machine.{exec}
+use Rattle.css_isa.proofs.NeverStuck.{never_stuck}
 use Rattle.css_isa.specs.Code.{Code}
 use Rattle.css_isa.specs.Soundness.{IsQuiet, IsShapeOf, IsSoundBody, IsSound}
 use Rattle.css_blocks.specs.Pieces.{Piece, Skip, Then, Do, Choice, When, Loop, Catch, Exit, Unless, Invoke, Submit, Leave, Ways, both, aimed}
-use Rattle.css_blocks.specs.Layout.{size, instr, lower, Program, ended, routine_of, code_of}
+use Rattle.css_blocks.specs.Layout.{size, instr, lower, Function, Program, ended, routine_of, code_of}
 use Rattle.css_blocks.specs.Finds.{MakesNoEvents, IsWhole}
+use Rattle.css_blocks.specs.Programs.{run_of}
 use Rattle.css_blocks.proofs.Plans.{plan_of, body_sound}
+use Rattle.css_blocks.proofs.Programs.{behaves}
 
 module _ (code : Code) where
   abbrev AllQuiet : List Instr → Type 0
@@ -70,3 +76,16 @@ whole_sound p whole =
       globals = whole.globals;
       datums = whole.datums;
     }
+
+-- ---- never stuck
+
+pub code_goes_on : (p : Program) → IsWhole p → (w : World) (k : ℕ) (f : Function) → slice_get p.functions k ≡ Some f → (arguments : List ℕ) → length arguments ≡ length f.parameters → (line : ℕ) (t t' : Tape) (n : ℕ)
+    → exec w (code_of p) n (Begin k arguments line) t ≢ Goes Stuck t'
+code_goes_on p whole w k f at arguments count line t t' n =
+    never_stuck w (code_of p) n (Begin k arguments line) t t'
+    (map (plan_of (code_of p)) p.functions, whole_sound p whole, (0, (refl, (routine_of f, mapped routine_of p.functions k f at, count))))
+
+pub pieces_go_on : (p : Program) → IsWhole p → (w : World) (k : ℕ) (f : Function) → slice_get p.functions k ≡ Some f → (arguments : List ℕ) → length arguments ≡ length f.parameters → (line : ℕ) (t t' : Tape) (n : ℕ)
+    → run_of w p k arguments line t n ≢ Goes Stuck t'
+pieces_go_on p whole w k f at arguments count line t t' n e =
+    let there = ((behaves p whole.fits).each w k arguments line t).ends n Stuck t' e in code_goes_on p whole w k f at arguments count line t t' there.0 there.1

@@ -1,12 +1,14 @@
 //! Laws of pieces. Each is what the contract of an empty function says.
-ghost use Rattle.std.specs.Prelude.{◌≡◌, ◌++◌, ℕ, List, length, reverse};
+ghost use Rattle.std.specs.Prelude.{◌≡◌, ◌++◌, ℕ, List, length, reverse, ◌≢◌, Some, slice_get};
 ghost use Rattle.css_isa.specs.Code.{Code};
 ghost use Rattle.css_isa.specs.Soundness.{Plan, IsSoundBody, IsSound};
 ghost use Rattle.css_blocks.specs.Layout.{Function, Program, routine_of, code_of};
 ghost use Rattle.css_blocks.specs.Finds.{AreFound, Fit, IsWhole};
 ghost use Rattle.css_blocks.specs.Correct.{Behaves};
 ghost use Rattle.css_isa.specs.Runs.{Grows};
-ghost use Rattle.css_semantics.specs.Dialogue.{World, Tape, Mode, then_do};
+ghost use Rattle.css_isa.specs.Steps.{Begin, Stuck};
+ghost use Rattle.css_isa.specs.Machine.{exec};
+ghost use Rattle.css_semantics.specs.Dialogue.{World, Tape, Mode, Goes, then_do};
 ghost use Rattle.css_blocks.specs.Pieces.{Invoke, Submit};
 ghost use Rattle.css_blocks.specs.Meaning.{Calls, given, means};
 ghost use Rattle.css_blocks.specs.Programs.{run_of};
@@ -42,4 +44,16 @@ pub fn tasks_calls_find_their_dimensions()
     ensures { (w : World) (calls : Calls) (n base line f : ℕ) (mode : Mode) (arguments dimensions stack : List ℕ) (tape : Tape)
         → means w calls n base (Submit line f (length arguments) (length dimensions)) mode (reverse dimensions ++ (reverse arguments ++ stack)) tape
         ≡ then_do (calls.submit f arguments dimensions base line tape) (given mode stack) }
+{}
+
+/// The code of a whole program of pieces is never stuck, in any world.
+pub fn code_is_never_stuck()
+    ensures { (p : Program) → IsWhole p → (w : World) (k : ℕ) (f : Function) → slice_get p.functions k ≡ Some f → (arguments : List ℕ) → length arguments ≡ length f.parameters
+        → (line : ℕ) (tape after : Tape) (n : ℕ) → exec w (code_of p) n (Begin k arguments line) tape ≢ Goes Stuck after }
+{}
+
+/// So its pieces never are.
+pub fn pieces_are_never_stuck()
+    ensures { (p : Program) → IsWhole p → (w : World) (k : ℕ) (f : Function) → slice_get p.functions k ≡ Some f → (arguments : List ℕ) → length arguments ≡ length f.parameters
+        → (line : ℕ) (tape after : Tape) (n : ℕ) → run_of w p k arguments line tape n ≢ Goes Stuck after }
 {}
