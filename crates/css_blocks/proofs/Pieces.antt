@@ -11,7 +11,8 @@ use Rattle.css_isa.specs.Effects as effects
 use Rattle.css_isa.specs.Effects.{Effect, effect}
 use Rattle.css_isa.specs.Roles.{Role, Straight, Turning, Outward, Telling, Awaiting, Changing, Testing, Jumping, Branching, Calling, Submitting, Returning, role_of}
 use Rattle.css_isa.specs.Steps as steps
-use Rattle.css_isa.specs.Steps.{Caller, State, At, Halt, Finished, Stuck, Step, Moves, Halts, left, given_back, makes_tasks, done, returning, act, on_function}
+use Rattle.css_isa.specs.Steps.{Caller, State, At, Halt, Finished, Stuck, Step, Moves, Halts, left, given_back, done, returning, act, on_function}
+use Rattle.css_semantics.specs.Tasks.{makes_tasks}
 use Rattle.css_isa.specs.Machine.{exec}
 use Rattle.css_blocks.specs.declared.part.Way.{Way}
 use Rattle.css_blocks.specs.declared.part.Way.TheVariants.{Breaks, Continues}

@@ -11,7 +11,7 @@ use Rattle.css_isa.specs.Code.{Routine, Shape, Code, call_of}
 use Rattle.css_isa.specs.Steps as steps
 use Rattle.css_isa.specs.Steps.{Caller, State, Begin, At, Halt, Finished, Stuck, Step, on_function, entered, left, given_back, done}
 use Rattle.css_isa.specs.Machine.{exec, frame_of, entry_line, finished, main_ends, body_ends}
-use Rattle.css_isa.specs.Runs.{Extends, Grows}
+use Rattle.css_semantics.specs.Fronts.{Extends, Grows}
 use Rattle.css_isa.proofs.Growth.{grows_exec, extends_exec}
 use Rattle.css_blocks.specs.declared.part.Way.TheVariants.{Breaks, Continues}
 use Rattle.css_blocks.specs.Pieces.{both}

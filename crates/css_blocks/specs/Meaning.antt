@@ -6,7 +6,7 @@ use Rattle.css_isa.specs.Cells.{cell_as}
 use Rattle.css_isa.specs.Effects as effects
 use Rattle.css_isa.specs.Effects.{Effect, effect}
 use Rattle.css_isa.specs.Roles.{Role, Straight, Turning, Outward, Telling, Awaiting, Changing, Testing, Jumping, Branching, Calling, Submitting, Returning, role_of}
-use Rattle.css_isa.specs.Steps.{makes_tasks}
+use Rattle.css_semantics.specs.Tasks.{makes_tasks}
 use Rattle.css_blocks.specs.declared.part.Way.{Way}
 use Rattle.css_blocks.specs.declared.part.Way.TheVariants.{Breaks, Continues}
 use Rattle.css_blocks.specs.Pieces.{Piece, Skip, Then, Do, Choice, When, Loop, Catch, Exit, Unless, Invoke, Submit, Leave}

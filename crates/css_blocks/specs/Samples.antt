@@ -10,7 +10,8 @@ use Rattle.css_isa.specs.declared.code.Op.TheVariants as ops
 use Rattle.css_isa.specs.declared.code.Mark.TheVariants as marks
 use Rattle.css_isa.specs.declared.code.Conversion.TheVariants as conversions
 use Rattle.css_isa.specs.Cells.{cell_as, sum_of, address_of}
-use Rattle.css_isa.specs.Steps.{Halt, Finished, makes_tasks}
+use Rattle.css_isa.specs.Steps.{Halt, Finished}
+use Rattle.css_semantics.specs.Tasks.{makes_tasks}
 use Rattle.css_blocks.specs.declared.part.Way.TheVariants.{Breaks, Continues}
 use Rattle.css_blocks.specs.Pieces as pieces
 use Rattle.css_blocks.specs.Pieces.{Piece, Do, Choice, When, Exit, Invoke, Submit, row, while_loop}

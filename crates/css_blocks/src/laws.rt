@@ -5,7 +5,7 @@ ghost use Rattle.css_isa.specs.Soundness.{Plan, IsSoundBody, IsSound};
 ghost use Rattle.css_blocks.specs.Layout.{Function, Program, routine_of, code_of};
 ghost use Rattle.css_blocks.specs.Finds.{AreFound, Fit, IsWhole};
 ghost use Rattle.css_blocks.specs.Correct.{Behaves};
-ghost use Rattle.css_isa.specs.Runs.{Grows};
+ghost use Rattle.css_semantics.specs.Fronts.{Grows};
 ghost use Rattle.css_isa.specs.Steps.{Begin, Stuck};
 ghost use Rattle.css_isa.specs.Machine.{exec};
 ghost use Rattle.css_semantics.specs.Dialogue.{World, Tape, Mode, Goes, then_do};

@@ -27,12 +27,30 @@ abbrev pub cells_behind : Role → (height : ℕ) → ℕ
 cells_behind (Straight needed taken given) height = height - taken + given
 cells_behind (Outward taken given) height = height - taken + given
 cells_behind Awaiting height = height - 1
-cells_behind _ height = height
+cells_behind Turning height = height
+cells_behind Telling height = height
+cells_behind (Changing mode) height = height
+cells_behind Testing height = height
+cells_behind (Jumping to) height = height
+cells_behind (Branching to) height = height
+cells_behind (Calling k) height = height
+cells_behind (Submitting k) height = height
+cells_behind Returning height = height
 
 -- what asks nothing
 abbrev pub MayBeSilent : Role → Type 0
 MayBeSilent Turning = ⊥
-MayBeSilent _ = Unit {0}
+MayBeSilent (Straight needed taken given) = Unit {0}
+MayBeSilent (Outward taken given) = Unit {0}
+MayBeSilent Telling = Unit {0}
+MayBeSilent Awaiting = Unit {0}
+MayBeSilent (Changing mode) = Unit {0}
+MayBeSilent Testing = Unit {0}
+MayBeSilent (Jumping to) = Unit {0}
+MayBeSilent (Branching to) = Unit {0}
+MayBeSilent (Calling k) = Unit {0}
+MayBeSilent (Submitting k) = Unit {0}
+MayBeSilent Returning = Unit {0}
 
 -- an effect leaves so many cells, asks what it may, and lacks none
 abbrev pub IsFitting : Role → (height : ℕ) → Effect → Type 0

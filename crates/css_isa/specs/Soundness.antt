@@ -90,7 +90,16 @@ module _ (code : Code) where
   abbrev pub AreNamed : Role → Type 0
   AreNamed (Calling k) = (f : Routine) × (slice_get code.functions k ≡ Some f)
   AreNamed (Submitting k) = (f : Routine) × (s : Shape) × (slice_get code.functions k ≡ Some f) × (f.task ≡ Some s)
-  AreNamed _ = Unit {0}
+  AreNamed (Straight needed taken given) = Unit {0}
+  AreNamed Turning = Unit {0}
+  AreNamed (Outward taken given) = Unit {0}
+  AreNamed Telling = Unit {0}
+  AreNamed Awaiting = Unit {0}
+  AreNamed (Changing mode) = Unit {0}
+  AreNamed Testing = Unit {0}
+  AreNamed (Jumping to) = Unit {0}
+  AreNamed (Branching to) = Unit {0}
+  AreNamed Returning = Unit {0}
 
   abbrev pub Names : Op → Type 0
   Names op = AreNamed (role_of op)
@@ -100,7 +109,15 @@ module _ (code : Code) where
   IsPlainAt Telling mode = mode ≡ Plain
   IsPlainAt (Calling k) mode = mode ≡ Plain
   IsPlainAt Returning mode = mode ≡ Plain
-  IsPlainAt _ mode = Unit {0}
+  IsPlainAt (Straight needed taken given) mode = Unit {0}
+  IsPlainAt Turning mode = Unit {0}
+  IsPlainAt (Outward taken given) mode = Unit {0}
+  IsPlainAt Awaiting mode = Unit {0}
+  IsPlainAt (Changing other) mode = Unit {0}
+  IsPlainAt Testing mode = Unit {0}
+  IsPlainAt (Jumping to) mode = Unit {0}
+  IsPlainAt (Branching to) mode = Unit {0}
+  IsPlainAt (Submitting k) mode = Unit {0}
 
   -- an instruction's places to go have the height and the mode that it leaves
   abbrev pub LeadsOn : Plan → ℕ → Spot → Role → Type 0

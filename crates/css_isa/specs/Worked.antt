@@ -37,7 +37,15 @@ abbrev pub needed_at : Role → ℕ
 needed_at (Straight needed taken given) = needed
 needed_at (Outward taken given) = taken
 needed_at Awaiting = 1
-needed_at _ = 0
+needed_at Turning = 0
+needed_at Telling = 0
+needed_at (Changing mode) = 0
+needed_at Testing = 0
+needed_at (Jumping to) = 0
+needed_at (Branching to) = 0
+needed_at (Calling k) = 0
+needed_at (Submitting k) = 0
+needed_at Returning = 0
 
 abbrev pub needed_by : Op → ℕ
 needed_by op = needed_at (role_of op)
@@ -46,7 +54,15 @@ abbrev pub taken_at : Role → ℕ
 taken_at (Straight needed taken given) = taken
 taken_at (Outward taken given) = taken
 taken_at Awaiting = 1
-taken_at _ = 0
+taken_at Turning = 0
+taken_at Telling = 0
+taken_at (Changing mode) = 0
+taken_at Testing = 0
+taken_at (Jumping to) = 0
+taken_at (Branching to) = 0
+taken_at (Calling k) = 0
+taken_at (Submitting k) = 0
+taken_at Returning = 0
 
 abbrev pub taken_by : Op → ℕ
 taken_by op = taken_at (role_of op)

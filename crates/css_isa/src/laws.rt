@@ -50,7 +50,7 @@ pub fn sound_code_is_never_stuck()
     ensures { (w : World) (code : Code) (steps : ℕ) (s : State) (tape after : Tape) → Fits code s → exec w code steps s tape ≢ Goes Stuck after }
 {}
 
-/// What a task reaches asks for its memory and its units alone, in every world.
+/// A task's body by itself asks for its memory and its units alone, or is at fault, in every world; and so does all that it reaches.
 pub fn tasks_ask_a_machine()
     ensures { (w : World) (code : Code) (plans : List Plan) (steps : ℕ) (s : State) (tape : Tape) → IsSound code plans → IsQuietAt code plans s → AreOfMachine tape
         → AreOfMachine (tape_of (exec w code steps s tape)) }

@@ -6,5 +6,5 @@ pub mod Sound
 pub mod Complete
 pub mod Names
 pub mod Gathered
-pub mod Parts
+pub mod AbsentParts
 pub mod Rules

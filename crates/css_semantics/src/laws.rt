@@ -21,8 +21,9 @@ pub fn units_are_within()
     ensures of_task { (start : Memory) (limits : Limits) (tape : Tape) → IsClear start limits tape → IfSome (body tape) (λ b. b.units ≤ limits.task_units) }
 {}
 
-/// Windows by the ranges of their rows, not byte by byte: a window has one of so many bytes exactly where one of its rows meets their
-/// range, and two windows share a byte exactly where a row of the one meets a row of the other.
+/// Windows by the ranges of their rows, not byte by byte. Of a window whose rows have a byte at least, one of so many bytes, one at
+/// least, is exactly where a row meets their range; two such windows share a byte exactly where a row of the one meets a row of the
+/// other.
 pub fn windows_meet_by_ranges()
     ensures bytes { (w : Window) (from n : ℕ) → 1 ≤ w.width → 1 ≤ n → some_from (has_byte w) from n ≡ window_meets w from (from + n) }
     ensures windows { (v w : Window) → 1 ≤ v.width → 1 ≤ w.width → share_byte v w ≡ rows_share w v.rows v.base v.width v.stride }

@@ -2,6 +2,7 @@
 use Rattle.std.specs.Prelude.{ℕ, ◌+◌, ℤ, pos, min, Bool, nat_le, List, [], ◌∷◌, ◌++◌, Option, Some, None, Ok}
 use Rattle.css_base.specs.declared.static_fault.StaticName.TheVariants.{TypeMismatch, TooBig}
 use Rattle.css_num.specs.Conversion.{converted, representation}
+use Rattle.css_semantics.specs.declared.TheConstants.{STACK_LIMIT}
 use Rattle.css_semantics.specs.Memory.{big_endian_bytes, rounded_up}
 use Rattle.css_tree.specs.Syntax as syntax
 use Rattle.css_core.specs.Core as core
@@ -103,7 +104,7 @@ pub record Globals : Type 0 where
 
 -- the heap starts behind the globals, and the stack's room is above it
 abbrev pub has_room : (memory end : ℕ) → Bool
-has_room memory end = nat_le (rounded_up 16 end + 1064960) memory
+has_room memory end = nat_le (rounded_up 16 end + STACK_LIMIT) memory
 
 abbrev pub global : (memory line : ℕ) → Globals → CType → syntax.Declarator → Judged Globals
 global memory line g base d =

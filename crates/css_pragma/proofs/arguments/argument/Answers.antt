@@ -1,6 +1,6 @@
 use Rattle.css_pragma.specs.Readings.{name_of}
 use Rattle.css_pragma.proofs.Exits.{passed}
-use Rattle.css_pragma.proofs.Parts.{no_block, no_sizes}
+use Rattle.css_pragma.proofs.AbsentParts.{no_block, no_sizes}
 use Rattle.css_pragma.proofs.arguments.argument.Goals as goal
 
 pub returns-in_err-name-clause-not_spelled : goal.returns-in_err-name-clause-not_spelled

@@ -1,5 +1,5 @@
 use Rattle.css_base.specs.Tokens.{lexemes}
-use Rattle.css_pragma.proofs.Parts.{no_arguments}
+use Rattle.css_pragma.proofs.AbsentParts.{no_arguments}
 use Rattle.css_pragma.proofs.arguments.arguments.Goals as goal
 
 pub returns-clause-not_spelled : goal.returns-clause-not_spelled

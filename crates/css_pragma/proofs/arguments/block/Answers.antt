@@ -1,5 +1,5 @@
 use Rattle.css_pragma.proofs.Exits.{passed}
-use Rattle.css_pragma.proofs.Parts.{no_second, no_third}
+use Rattle.css_pragma.proofs.AbsentParts.{no_second, no_third}
 use Rattle.css_pragma.proofs.arguments.block.Goals as goal
 
 pub returns-in_err-rows-clause-not_spelled : goal.returns-in_err-rows-clause-not_spelled

@@ -1,6 +1,6 @@
 use Rattle.css_base.specs.Tokens.{lexemes}
 use Rattle.css_pragma.proofs.Exits.{passed}
-use Rattle.css_pragma.proofs.Parts.{no_clause_word, no_clause_arguments, no_open}
+use Rattle.css_pragma.proofs.AbsentParts.{no_clause_word, no_clause_arguments, no_open}
 use Rattle.css_pragma.proofs.clauses.clause.Goals as goal
 
 pub returns-in_default-direction-clause-not_spelled : goal.returns-in_default-direction-clause-not_spelled

@@ -1,5 +1,5 @@
 use Rattle.css_pragma.proofs.Exits.{passed}
-use Rattle.css_pragma.proofs.Parts.{no_closed, no_close}
+use Rattle.css_pragma.proofs.AbsentParts.{no_closed, no_close}
 use Rattle.css_pragma.proofs.expression.closed.Goals as goal
 
 pub returns-in_default-clause-not_spelled : goal.returns-in_default-clause-not_spelled

@@ -2,7 +2,7 @@ use Rattle.std.proofs.Common.{sym, ◌∙◌}
 use Rattle.std.proofs.lemmas.Bool.{false≢true}
 use Rattle.css_base.specs.Tokens.{lexemes}
 use Rattle.css_pragma.proofs.Exits.{passed}
-use Rattle.css_pragma.proofs.Parts.{no_directive}
+use Rattle.css_pragma.proofs.AbsentParts.{no_directive}
 use Rattle.css_pragma.proofs.spelled.in_block.Goals as goal
 
 pub returns-in_err-addresses-clause-not_spelled : goal.returns-in_err-addresses-clause-not_spelled

@@ -2,7 +2,7 @@ use Rattle.std.proofs.Common.{subst}
 use Rattle.css_base.specs.Tokens.{lexemes}
 use Rattle.css_pragma.specs.Readings.{ReadsDirective}
 use Rattle.css_pragma.proofs.Exits.{passed}
-use Rattle.css_pragma.proofs.Parts.{only_task}
+use Rattle.css_pragma.proofs.AbsentParts.{only_task}
 use Rattle.css_pragma.proofs.spelled.spelled.Goals as goal
 
 pub returns-in_err-clauses-in-BeforeFunction-clause-not_spelled : goal.returns-in_err-clauses-in-BeforeFunction-clause-not_spelled

@@ -5,7 +5,7 @@ use Rattle.css_tree.specs.Shapes.{clause}
 use Rattle.css_pragma.specs.Directives.{is_priority}
 use Rattle.css_pragma.proofs.Exits.{passed}
 use Rattle.css_pragma.proofs.Lists.{count_by_mapped}
-use Rattle.css_pragma.proofs.Parts.{no_task, task_clauses}
+use Rattle.css_pragma.proofs.AbsentParts.{no_task, task_clauses}
 use Rattle.css_pragma.proofs.spelled.task.Goals as goal
 
 pub returns-in_default-clause-not_spelled : goal.returns-in_default-clause-not_spelled

@@ -5,7 +5,7 @@ use Rattle.css_pragma.specs.Readings.{ReadsAddresses}
 use Rattle.css_pragma.proofs.Exits.{passed}
 use Rattle.css_pragma.proofs.Lists.{no_tokens, some_tokens}
 use Rattle.css_pragma.proofs.One.{one_addresses}
-use Rattle.css_pragma.proofs.Parts.{no_wait, no_wait_open, no_wait_on}
+use Rattle.css_pragma.proofs.AbsentParts.{no_wait, no_wait_open, no_wait_on}
 use Rattle.css_pragma.proofs.spelled.wait.Goals as goal
 
 pub returns-in_default-clause-not_spelled : goal.returns-in_default-clause-not_spelled
