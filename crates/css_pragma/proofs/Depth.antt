@@ -1,7 +1,7 @@
 -- A token too many that opens a bracket.
 use Rattle.std.proofs.Common.{◌≡◌, ℕ, ◌<◌, List, [], ◌∷◌, ◌++◌, refl, sym, ◌∙◌, arith, append_assoc}
 use Rattle.css_base.specs.Tokens.{Lexeme}
-use Rattle.css_tree.specs.Parts.{kind_at, line_of}
+use Rattle.css_tree.specs.TokenParts.{kind_at, line_of}
 use Rattle.css_tree.specs.Brackets.{IsShallow, open_behind}
 use Rattle.css_parse.proofs.Nesting.{IsShallowSoFar, deep}
 

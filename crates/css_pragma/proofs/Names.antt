@@ -7,7 +7,7 @@ use Rattle.css_tree.specs.declared.scope.Scope.{Scope}
 use Rattle.css_tree.specs.declared.scope.Scope.TheVariants as scopes
 use Rattle.css_tree.specs.Syntax as tree
 use Rattle.css_tree.specs.Syntax.{Expression}
-use Rattle.css_tree.specs.Parts.{kind_at, line_of}
+use Rattle.css_tree.specs.TokenParts.{kind_at, line_of}
 use Rattle.css_tree.specs.Words.{IsName}
 use Rattle.css_tree.specs.Expressions as spelled
 use Rattle.css_tree.specs.Expressions.{SpellsExpression}
