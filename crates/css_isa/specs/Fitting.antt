@@ -4,7 +4,7 @@ use Rattle.css_semantics.specs.Dialogue.{Action, Turn, Load, Store, Out, In, Mal
 use Rattle.css_isa.specs.Cells.{cell_as}
 use Rattle.css_isa.specs.Code.{Code}
 use Rattle.css_isa.specs.Effects.{Effect, Gives, Asks, Tells, Faults, Lacks}
-use Rattle.css_isa.specs.Roles.{Role, Straight, Turning, Outward, Telling, Awaiting}
+use Rattle.css_isa.specs.Roles.{Role, Straight, Turning, Outward, Telling, Awaiting, Changing, Testing, Jumping, Branching, Calling, Submitting, Returning, role_of}
 use Rattle.css_isa.specs.Steps.{State, Finished, Stuck, Step, Moves, Requests, Notifies, Fails, Tests, Enters, Leaves, Submits, Halts, inside, pushed}
 use Rattle.css_isa.specs.Soundness.{Plan, IsAt}
 
