@@ -1,5 +1,5 @@
 -- The rules on what a call is given.
-use Rattle.std.proofs.Common.{◌≡◌, ℕ, zero, suc, ◌+◌, ◌*◌, ◌^◌, ◌<◌, ◌≤◌, Bool, true, false, not, ◌||◌, List, [], ◌∷◌, length, map, drop, slice_get, nat_lt, Option, Some, None, Result, Ok, Err, refl, sym, ap, ◌∙◌, subst, arith}
+use Rattle.std.proofs.Common.{◌≡◌, ℕ, ◌+◌, ◌*◌, ◌^◌, ◌<◌, ◌≤◌, Bool, true, false, List, [], ◌∷◌, drop, slice_get, Option, Some, Ok, Err, refl, ap, subst, arith}
 use Rattle.std.specs.List.{list_any}
 use Rattle.std.proofs.lemmas.Bool.{or_left, or_right, or_from}
 use Rattle.css_base.specs.declared.rule.Rule.{Rule}
@@ -10,14 +10,14 @@ use Rattle.css_semantics.specs.Pending.{Object}
 use Rattle.css_semantics.specs.Rules.{check, first_broken, overlap, overlaps_partly}
 use Rattle.css_objects.specs.declared.argument.Argument as code
 use Rattle.css_objects.specs.Found.{TakesAtMost}
-use Rattle.css_objects.specs.Arguments.{given, is_unfit, HaveElements, AreFit}
+use Rattle.css_objects.specs.Arguments.{is_unfit, HaveElements, AreFit}
 use Rattle.css_objects.specs.Judged.{steps_of, judgement}
 use Rattle.css_objects.proofs.Looking.{drop_at}
 use Rattle.css_objects.proofs.Stores.{none_any}
 
 -- ---- the first rule that is broken
 
-abbrev broken : (x3 x4 x5 x6 x7 : Bool) → Option Rule
+abbrev pub broken : (x3 x4 x5 x6 x7 : Bool) → Option Rule
 broken x3 x4 x5 x6 x7 =
     first_broken (check rules.Dimension x3 ∷ check rules.TooLarge x4 ∷ check rules.DeadArgument x5 ∷ check rules.PartialOverlap x6 ∷ check rules.AliasedArguments x7 ∷ [])
 

@@ -1,20 +1,19 @@
 -- The table without some of its objects.
-use Rattle.std.proofs.Common.{◌≡◌, ◌≢◌, ℕ, zero, suc, ◌+◌, ◌*◌, ◌<◌, ◌≤◌, Bool, true, false, not, ◌&&◌, List, [], ◌∷◌, ◌++◌, length, map, filter, take, drop, slice_get, slice_index, Option, Some, None, ◌⊎◌, inl, inr, refl, sym, ap, ◌∙◌, subst, All, arith, eqb, if◌then◌else◌}
+use Rattle.std.proofs.Common.{◌≡◌, ◌≢◌, ℕ, zero, suc, ◌+◌, ◌*◌, ◌<◌, ◌≤◌, Bool, true, false, not, List, [], ◌∷◌, ◌++◌, map, filter, slice_get, Some, ◌⊎◌, inl, inr, refl, sym, ap, ◌∙◌, subst, All, arith, eqb, if◌then◌else◌}
 use Rattle.std.specs.List.{remove}
 use Rattle.std.proofs.lemmas.List.{length-map, map-append, append-nil}
 use Rattle.std.proofs.lemmas.List.Elements.{All-head, All-tail, All-nil, All-cons}
 use Rattle.std.proofs.lemmas.Option.{slice_get_within}
-use Rattle.std.proofs.lemmas.Bool.{cases_order, cases_lt, false≢true, eq-eqb, ne_eqb, eqb-true}
+use Rattle.std.proofs.lemmas.Bool.{cases_order, cases_lt, false≢true, eq-eqb, ne_eqb}
 use Rattle.css_semantics.specs.Pending.{Object}
 use Rattle.css_semantics.specs.Rules.{share_byte}
 use Rattle.css_semantics.specs.Clear.{AreApart}
 use Rattle.css_semantics.proofs.Apart.{filter-apart}
 use Rattle.css_record.specs.declared.window.Window as coded
-use Rattle.css_record.specs.Windows.{window, IsWindow}
-use Rattle.css_semantics.specs.WindowRanges.{window_meets}
-use Rattle.css_objects.specs.Ordered.{bases, IsAscending, HasNone}
+use Rattle.css_record.specs.Windows.{window}
+use Rattle.css_objects.specs.Ordered.{IsAscending, HasNone}
 use Rattle.css_objects.specs.Found.{Each, IsRow, AreRows}
-use Rattle.css_objects.specs.Table.{Entry, windows, is_written, is_other, without, object, objects, Table, IsBlock, IsTable}
+use Rattle.css_objects.specs.Table.{Entry, windows, is_written, is_other, without, object, IsBlock, IsTable}
 use Rattle.css_semantics.proofs.WindowRanges.{share_is_rows, share_by, rows_by}
 use Rattle.css_objects.proofs.Searches.{base_at}
 use Rattle.css_objects.proofs.Lists.{map_place, place_map, place_left}

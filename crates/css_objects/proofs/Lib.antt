@@ -20,3 +20,4 @@ pub mod Making
 pub mod Names
 pub mod Holding
 pub mod Giving
+pub mod Joins

@@ -1,14 +1,14 @@
 -- Lists that are looked at one element after another.
-use Rattle.std.proofs.Common.{◌≡◌, ℕ, zero, suc, ◌+◌, ◌-◌, ◌<◌, ◌≤◌, Bool, true, false, not, ◌&&◌, ◌||◌, List, [], ◌∷◌, ◌++◌, length, map, filter, take, drop, fold, slice_get, Option, Some, None, is_some, MatchOption, inl, inr, refl, sym, ap, ◌∙◌, subst, arith, if◌then◌else◌}
+use Rattle.std.proofs.Common.{◌≡◌, ℕ, zero, suc, ◌+◌, ◌<◌, ◌≤◌, Bool, true, false, not, ◌&&◌, ◌||◌, List, [], ◌∷◌, ◌++◌, length, filter, take, drop, fold, slice_get, Option, Some, None, is_some, MatchOption, refl, sym, ap, ◌∙◌, subst, arith, if◌then◌else◌}
 use Rattle.std.specs.List.{list_any}
-use Rattle.std.proofs.lemmas.Bool.{cases_order, or_left, or_from, false≢true, false_from_ne_true}
+use Rattle.std.proofs.lemmas.Bool.{or_left, or_from, false≢true}
 use Rattle.std.proofs.lemmas.List.Folds.{list_any-append}
 use Rattle.css_semantics.specs.Dialogue.{Argument}
 use Rattle.css_semantics.specs.Memory.{rounded_up}
 use Rattle.css_semantics.specs.Tasks.{Window, window, is_same_window, window_length, writes}
 use Rattle.css_semantics.specs.Rules.{different, room_of, has_alias}
 use Rattle.css_objects.specs.declared.argument.Argument as code
-use Rattle.css_objects.specs.Arguments.{given, is_unfit, IsWindowOf}
+use Rattle.css_objects.specs.Arguments.{is_unfit, IsWindowOf}
 use Rattle.css_objects.specs.Judged.{bytes_of}
 use Rattle.css_record.specs.declared.window.Window as coded
 

@@ -1,19 +1,18 @@
 -- Searches among windows of one row, of which each ends before the next one begins.
-use Rattle.std.proofs.Common.{◌≡◌, ℕ, zero, suc, ◌+◌, ◌*◌, ◌-◌, ◌^◌, ◌<◌, ◌≤◌, Bool, true, false, List, length, slice_get, nat_lt, Option, Some, None, inl, inr, refl, sym, ap, ◌∙◌, subst, arith}
-use Rattle.std.proofs.lemmas.Bool.{cases_order, cases_lt, cases_Bool, ltb-true, false≢true, false_from_ne_true}
+use Rattle.std.proofs.Common.{◌≡◌, ℕ, suc, ◌+◌, ◌*◌, ◌-◌, ◌^◌, ◌<◌, ◌≤◌, true, false, List, length, slice_get, Some, inl, inr, sym, ap, ◌∙◌, subst, arith}
+use Rattle.std.proofs.lemmas.Bool.{cases_order, cases_lt, false≢true, false_from_ne_true}
 use Rattle.std.proofs.Common.{◌⊎◌}
 use Rattle.std.proofs.Math.Nat.{suc-mul}
 use Rattle.std.proofs.lemmas.Nat.{mul-le, pow_below}
 use Rattle.std.proofs.lemmas.List.{length-map}
 use Rattle.std.proofs.lemmas.Option.{slice_get_within}
-use Rattle.css_semantics.specs.Tasks.{Window}
 use Rattle.css_semantics.specs.Rules.{share_byte}
 use Rattle.css_record.specs.declared.window.Window as coded
 use Rattle.css_record.specs.Windows.{window, IsWindow}
 use Rattle.css_objects.specs.declared.ordered.Found.{Found}
-use Rattle.css_semantics.specs.WindowRanges.{row_meets, window_meets, rows_share}
-use Rattle.css_objects.specs.Ordered.{bases, IsAscending, StandAbove, Stands, IsLastBelow, IsSearch}
-use Rattle.css_objects.specs.Found.{Each, IsRow, AreRows, NoneMeets, IsLastMeeting, NoneShares, IsLastSharing, TakesAtMost}
+use Rattle.css_semantics.specs.WindowRanges.{window_meets}
+use Rattle.css_objects.specs.Ordered.{IsAscending, StandAbove, Stands, IsLastBelow, IsSearch}
+use Rattle.css_objects.specs.Found.{Each, AreRows, NoneMeets, IsLastMeeting, NoneShares, IsLastSharing, TakesAtMost}
 use Rattle.css_semantics.proofs.WindowRanges.{rows_give, rows_by, none_below, share_is_rows, share_gives, share_by}
 use Rattle.css_objects.proofs.Searches.{base_at}
 

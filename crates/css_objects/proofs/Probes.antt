@@ -1,7 +1,6 @@
 -- What a probe says of the table.
-use Rattle.std.proofs.Common.{◌≡◌, ◌≢◌, ℕ, zero, suc, ◌+◌, ◌*◌, ◌<◌, ◌≤◌, Bool, true, false, not, ◌&&◌, ◌||◌, List, [], ◌∷◌, ◌++◌, length, map, slice_get, Option, Some, None, MatchOption, ◌⊎◌, inl, inr, refl, sym, ap, ◌∙◌, subst, All, arith, eqb}
+use Rattle.std.proofs.Common.{◌≡◌, ◌≢◌, ℕ, zero, suc, ◌+◌, ◌*◌, ◌<◌, ◌≤◌, true, false, ◌&&◌, List, [], ◌∷◌, ◌++◌, length, map, slice_get, Some, ◌⊎◌, inl, inr, sym, ap, ◌∙◌, subst, arith, eqb}
 use Rattle.std.specs.List.{list_any}
-use Rattle.std.proofs.lemmas.List.Elements.{All-head, All-tail}
 use Rattle.std.proofs.lemmas.Bool.{cases_order, false≢true, and_parts, eqb-true, ne_eqb, false_from_ne_true}
 use Rattle.std.proofs.lemmas.Option.{slice_get_within}
 use Rattle.css_semantics.specs.Tasks.{is_same_window}
@@ -14,10 +13,10 @@ use Rattle.css_objects.specs.declared.ordered.Found.{Found}
 use Rattle.css_objects.specs.declared.pending.Probe.{Probe}
 use Rattle.css_objects.specs.declared.pending.Pending.{Pending}
 use Rattle.css_objects.specs.declared.pending.Probe.TheVariants as probes
-use Rattle.css_objects.specs.Ordered.{bases, Stands, HasNone}
+use Rattle.css_objects.specs.Ordered.{HasNone}
 use Rattle.css_objects.specs.Found.{Each, NoneShares, IsLastSharing}
-use Rattle.css_objects.specs.Table.{Entry, Table, windows, object, objects, all_entries, IsTable}
-use Rattle.css_objects.specs.Seen.{ShowsAt, IsShown, Crosses, IsProbe, IsSeen}
+use Rattle.css_objects.specs.Table.{Entry, Table, windows, object, IsTable}
+use Rattle.css_objects.specs.Seen.{ShowsAt, IsProbe, IsSeen}
 use Rattle.css_semantics.proofs.WindowRanges.{share-sym, share_is_rows, share_by, rows_by}
 use Rattle.css_objects.proofs.Searches.{base_at}
 use Rattle.css_objects.proofs.Lists.{any_none, at_place, map_place, place_map, place_left, place_right}

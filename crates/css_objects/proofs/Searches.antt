@@ -1,5 +1,5 @@
 -- Searches among windows in order of base.
-use Rattle.std.proofs.Common.{◌≡◌, ℕ, zero, suc, ◌+◌, ◌*◌, ◌-◌, ◌/◌, ◌^◌, ◌<◌, ◌≤◌, ◌≢◌, List, [], ◌∷◌, length, map, slice_index, slice_get, Option, Some, None, MatchOption, refl, sym, ap, ◌∙◌, subst, arith}
+use Rattle.std.proofs.Common.{◌≡◌, ℕ, suc, ◌+◌, ◌*◌, ◌-◌, ◌/◌, ◌^◌, ◌<◌, ◌≤◌, ◌≢◌, List, length, slice_index, slice_get, Option, Some, None, MatchOption, refl, sym, ap, ◌∙◌, subst, arith}
 use Rattle.std.proofs.Math.Nat.{pow-succ'}
 use Rattle.std.proofs.lemmas.List.{length-map}
 use Rattle.std.proofs.lemmas.Nat.{mul-le}
@@ -9,7 +9,7 @@ use Rattle.std.proofs.Common.{inl, inr}
 use Rattle.std.specs.Option.{option_map}
 use Rattle.css_record.specs.declared.window.Window.{Window}
 use Rattle.css_objects.specs.declared.ordered.Found.{Found}
-use Rattle.css_objects.specs.Ordered.{bases, IsAscending, StandAbove, Stands, IsLastBelow, IsOfBase, HasNone, IsSearch}
+use Rattle.css_objects.specs.Ordered.{bases, IsAscending, StandAbove, Stands, IsLastBelow, HasNone, IsSearch}
 
 -- the base at a place
 pub base_at : (windows : List Window) (i : ℕ) (w : Window) → slice_get windows i ≡ Some w → slice_index (bases windows) i ≡ w.base

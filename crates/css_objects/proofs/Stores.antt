@@ -1,15 +1,15 @@
 -- What main's stores take out of the table.
-use Rattle.std.proofs.Common.{◌≡◌, ◌≢◌, ℕ, zero, suc, ◌+◌, ◌*◌, ◌<◌, ◌≤◌, Bool, true, false, not, ◌&&◌, ◌||◌, List, [], ◌∷◌, ◌++◌, length, map, filter, slice_get, Option, Some, None, MatchOption, IfSome, ◌⊎◌, inl, inr, refl, sym, ap, ◌∙◌, subst, All, arith, ◌-◌}
+use Rattle.std.proofs.Common.{◌≡◌, ℕ, ◌+◌, ◌<◌, ◌≤◌, Bool, true, false, not, ◌&&◌, ◌||◌, List, ◌++◌, length, map, filter, slice_get, Option, Some, None, MatchOption, IfSome, ◌⊎◌, inl, inr, refl, sym, ap, ◌∙◌, subst, arith, ◌-◌}
 use Rattle.std.specs.List.{list_any, remove}
 use Rattle.std.proofs.lemmas.List.{length-map}
 use Rattle.std.proofs.lemmas.List.Edits.{remove-append_left, remove-append_right}
 use Rattle.std.proofs.lemmas.Option.{slice_get_within}
-use Rattle.std.proofs.lemmas.Bool.{cases_order, false≢true, false_from_ne_true, and_from}
+use Rattle.std.proofs.lemmas.Bool.{cases_order, false≢true, false_from_ne_true}
 use Rattle.css_semantics.specs.Tasks.{has_byte}
 use Rattle.css_semantics.specs.Pending.{Object, some_from, without_stored}
 use Rattle.css_semantics.specs.Rules.{meets}
 use Rattle.css_record.specs.declared.window.Window as coded
-use Rattle.css_record.specs.Windows.{window, IsWindow}
+use Rattle.css_record.specs.Windows.{window}
 use Rattle.css_objects.specs.declared.ordered.Found.{Found}
 use Rattle.css_semantics.specs.WindowRanges.{window_meets}
 use Rattle.css_objects.specs.Ordered.{IsAscending, Stands}

@@ -1,5 +1,5 @@
 -- What the table's searches say of its objects.
-use Rattle.std.proofs.Common.{◌≡◌, ℕ, zero, suc, ◌+◌, ◌*◌, ◌-◌, ◌^◌, ◌<◌, ◌≤◌, Bool, true, false, not, ◌&&◌, ◌||◌, List, [], ◌∷◌, ◌++◌, length, map, filter, slice_get, is_some, Option, Some, None, MatchOption, ◌⊎◌, inl, inr, refl, sym, ap, ◌∙◌, subst, arith, if◌then◌else◌}
+use Rattle.std.proofs.Common.{◌≡◌, ℕ, zero, suc, ◌+◌, ◌*◌, ◌^◌, ◌<◌, ◌≤◌, Bool, true, false, not, ◌&&◌, ◌||◌, List, [], ◌∷◌, ◌++◌, length, map, filter, slice_get, is_some, Option, Some, None, MatchOption, inl, inr, refl, sym, ap, ◌∙◌, subst, arith, if◌then◌else◌}
 use Rattle.std.specs.List.{list_any}
 use Rattle.std.proofs.lemmas.List.{length-map}
 use Rattle.std.proofs.Common.{get_or}
@@ -7,25 +7,22 @@ use Rattle.std.proofs.lemmas.Option.{slice_get_read, slice_get_within}
 use Rattle.std.proofs.lemmas.List.Folds.{list_any-append}
 use Rattle.std.proofs.Math.Nat.{pow-succ'}
 use Rattle.std.proofs.Common.{lit<}
-use Rattle.std.proofs.lemmas.Bool.{cases_order, false≢true, or_left, or_right, and_parts, eqb-true, eq-eqb, or_parts, or_from}
+use Rattle.std.proofs.lemmas.Bool.{cases_order, or_from}
 use Rattle.std.proofs.Common.{is_none}
-use Rattle.css_semantics.specs.Tasks.{has_byte, is_same_window}
+use Rattle.css_semantics.specs.Tasks.{has_byte}
 use Rattle.css_semantics.specs.Pending.{Object, some_from}
 use Rattle.css_semantics.specs.Rules.{share_byte, meets}
-use Rattle.css_semantics.specs.Clear.{AreApart}
-use Rattle.css_semantics.proofs.Windows.{apart-sym}
 use Rattle.css_record.specs.declared.window.Window as coded
 use Rattle.css_record.specs.Windows.{window, IsWindow}
 use Rattle.css_objects.specs.declared.ordered.Found.{Found}
 use Rattle.css_objects.specs.declared.version.Held.{Held}
 use Rattle.css_semantics.specs.WindowRanges.{window_meets}
-use Rattle.css_objects.specs.Ordered.{bases, Stands, HasNone, IsOfBase, IsSearch}
-use Rattle.css_objects.specs.Found.{Each, IsRow, AreRows, NoneMeets, IsLastMeeting, NoneShares, IsLastSharing, TakesAtMost}
-use Rattle.css_objects.specs.Table.{Entry, Table, entries, windows, maker, is_written, object, objects, all_entries, IsBlock, IsTable}
-use Rattle.css_semantics.proofs.WindowRanges.{some_is_range, same_test}
-use Rattle.css_objects.proofs.Searches.{base_at}
+use Rattle.css_objects.specs.Ordered.{IsSearch}
+use Rattle.css_objects.specs.Found.{Each, NoneMeets, IsLastMeeting, NoneShares, IsLastSharing, TakesAtMost}
+use Rattle.css_objects.specs.Table.{Entry, Table, entries, windows, maker, is_written, object, objects, IsTable}
+use Rattle.css_semantics.proofs.WindowRanges.{some_is_range}
 use Rattle.css_objects.proofs.OneRowSearches.{search_takes}
-use Rattle.css_objects.proofs.Lists.{any_none, any_one, any_same, any_map, any_filter, at_place, map_place, place_map, place_left, place_right}
+use Rattle.css_objects.proofs.Lists.{any_none, any_one, any_same, any_map, any_filter, place_map}
 
 -- ---- windows and versions side by side
 

@@ -1,5 +1,5 @@
 -- Arguments as the definitions of tasks have them, and their windows.
-use Rattle.std.specs.Prelude.{◌≡◌, ◌≤◌, ◌<◌, ◌+◌, ◌*◌, ◌-◌, ◌^◌, ◌⊎◌, ℕ, ℤ, Bool, true, false, ◌||◌, List, [], ◌∷◌, fold, slice_get, Option, Some}
+use Rattle.std.specs.Prelude.{◌≡◌, ◌≤◌, ◌<◌, ◌*◌, ◌^◌, ◌⊎◌, ℕ, ℤ, Bool, true, false, ◌||◌, List, [], ◌∷◌, fold, slice_get, Some}
 use Rattle.std.specs.List.{list_all}
 use Rattle.css_base.specs.declared.direction.Direction.TheVariants.{In}
 use Rattle.css_semantics.specs.Dialogue.{Argument}

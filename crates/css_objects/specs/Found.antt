@@ -1,5 +1,5 @@
 -- What a search for windows that share bytes finds.
-use Rattle.std.specs.Prelude.{◌≡◌, ◌+◌, ◌*◌, ◌^◌, ◌≤◌, ◌<◌, ℕ, Bool, true, false, List, slice_get, Option, Some}
+use Rattle.std.specs.Prelude.{◌≡◌, ◌+◌, ◌*◌, ◌^◌, ◌≤◌, ◌<◌, ℕ, true, false, List, slice_get, Some}
 use Rattle.css_semantics.specs.Rules.{share_byte}
 use Rattle.css_record.specs.declared.window.Window.{Window}
 use Rattle.css_record.specs.Windows.{window, IsWindow}

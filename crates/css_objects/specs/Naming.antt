@@ -1,5 +1,5 @@
 -- What a call reads and makes, by the table.
-use Rattle.std.specs.Prelude.{◌≡◌, ◌<◌, ◌+◌, ℕ, Bool, true, false, ◌&&◌, ◌||◌, ◌==◌, List, [], ◌∷◌, ◌++◌, length, map, find, Option, Some, None, option_map, is_some, slice_index, if◌then◌else◌}
+use Rattle.std.specs.Prelude.{◌≡◌, ◌<◌, ◌+◌, ℕ, Bool, false, ◌&&◌, ◌||◌, ◌==◌, List, [], ◌∷◌, ◌++◌, length, map, find, Option, Some, None, option_map, slice_index, if◌then◌else◌}
 use Rattle.std.specs.List.{list_any}
 use Rattle.css_base.specs.declared.direction.Direction.{Direction}
 use Rattle.css_objects.specs.declared.argument.Argument.{Argument}

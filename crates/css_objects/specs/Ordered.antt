@@ -1,5 +1,5 @@
 -- Windows in order of base, and searches among them.
-use Rattle.std.specs.Prelude.{◌≡◌, ◌+◌, ◌*◌, ◌-◌, ◌^◌, ◌≤◌, ◌<◌, ℕ, List, length, map, slice_get, slice_index, Option, Some}
+use Rattle.std.specs.Prelude.{◌≡◌, ◌+◌, ◌*◌, ◌-◌, ◌^◌, ◌≤◌, ◌<◌, ℕ, List, length, map, slice_get, slice_index, Some}
 use Rattle.css_record.specs.declared.window.Window.{Window}
 use Rattle.css_objects.specs.declared.ordered.Found.{Found}
 

@@ -1,8 +1,7 @@
 -- Pending objects as they are lent from the table.
-use Rattle.std.specs.Prelude.{◌≡◌, ◌≢◌, ◌≤◌, ◌<◌, ℕ, Bool, true, false, List, length, slice_get, Option, Some}
+use Rattle.std.specs.Prelude.{◌≡◌, ◌≢◌, ◌≤◌, ℕ, Bool, true, false, List, slice_get, Some}
 use Rattle.std.specs.List.{list_any}
 use Rattle.css_semantics.specs.Tasks.{is_same_window}
-use Rattle.css_semantics.specs.Pending.{Object}
 use Rattle.css_semantics.specs.Rules.{share_byte}
 use Rattle.css_record.specs.declared.window.Window.{Window}
 use Rattle.css_record.specs.Windows.{window}

@@ -1,5 +1,5 @@
 -- The table of pending objects.
-use Rattle.std.specs.Prelude.{◌≡◌, ◌≤◌, ◌<◌, ℕ, Bool, true, false, not, ◌==◌, List, [], ◌∷◌, ◌++◌, length, map, filter, is_some, slice_get, Option, Some, None, All}
+use Rattle.std.specs.Prelude.{◌≡◌, ◌<◌, ℕ, Bool, not, ◌==◌, List, [], ◌∷◌, ◌++◌, map, filter, is_some, Option, Some}
 use Rattle.css_semantics.specs.Pending.{Object}
 use Rattle.css_semantics.specs.Clear.{AreApart}
 use Rattle.css_record.specs.declared.window.Window.{Window}

@@ -1,5 +1,5 @@
 -- Versions that tasks make, and the bytes that come in their places.
-use Rattle.std.specs.Prelude.{ℕ, List, [], ◌∷◌, map, drop, Option, Some}
+use Rattle.std.specs.Prelude.{ℕ, List, [], ◌∷◌, map, drop, Some}
 use Rattle.css_record.specs.declared.version.VersionName.{VersionName}
 use Rattle.css_record.specs.declared.version.VersionName.TheVariants as names
 use Rattle.css_objects.specs.declared.version.Held.{Held}

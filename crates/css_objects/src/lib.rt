@@ -3,6 +3,7 @@
 
 mod argument;
 mod judging;
+mod laws;
 mod naming;
 mod ordered;
 mod part;
@@ -14,6 +15,9 @@ mod version;
 mod window;
 
 pub use argument::{Argument, Dims};
+pub use laws::{
+    accesses_are_judged_by_tables, calls_are_judged_by_tables, layouts_are_of_memories,
+};
 pub use naming::Named;
 pub use ordered::{Found, Ordered};
 pub use pending::{Pending, Probe, Version};

@@ -1,5 +1,5 @@
 //! The table of pending objects.
-ghost use Rattle.std.specs.Prelude.{filter, false, ◌≡◌, ◌==◌, ◌≢◌, ◌+◌, ◌≤◌, ℕ, not, map, length, slice_get, Some, MatchOption, IfOk, OnOk, OnErr, ◌<◌, ◌&&◌, IsPermutation, None};
+ghost use Rattle.std.specs.Prelude.{filter, true, false, ◌≡◌, ◌==◌, ◌≢◌, ◌+◌, ◌≤◌, ℕ, not, map, length, slice_get, Some, MatchOption, IfOk, OnOk, OnErr, ◌<◌, ◌&&◌, IsPermutation, None};
 ghost use Rattle.std.specs.List.{remove};
 ghost use Rattle.css_semantics.specs.Tasks.{is_same_window, writes};
 ghost use Rattle.css_semantics.specs.Pending.{without_stored};
@@ -102,6 +102,7 @@ impl ObjectTable {
     pub fn leaves_frame<L: Ledger>(&self, window: Window, steps: &mut Steps<L>) -> bool
         requires { records.IsWindow (records.window window) }
         ensures answer { result ≡ not (list_any (λ o. share_byte (records.window window) o.window) (objects self.now)) }
+        ensures frame { window.rows ≡ 1 → result ≡ not (meets (λ o. true) (objects self.now) window.base window.width) }
         ensures cost { TakesAtMost (length self.now.rows) (length self.now.blocks) window.rows steps.old steps.new }
     {
         let row = self.rows.last_row(&window, steps).is_none();

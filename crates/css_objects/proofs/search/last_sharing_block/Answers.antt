@@ -1,5 +1,4 @@
-use Rattle.std.proofs.Common.{◌≡◌, ◌+◌, ◌-◌, subst, sym, ◌∙◌, length, ℕ, refl, arith}
-use Rattle.css_record.specs.Windows.{window}
+use Rattle.std.proofs.Common.{◌≡◌, ◌+◌, ◌-◌, subst, sym, ◌∙◌, ℕ, arith}
 use Rattle.css_objects.proofs.OneRowSearches.{NoneSharesFrom, shares_end, shares_more, shares_all, shares_last}
 use Rattle.css_objects.proofs.search.last_sharing_block.Goals as goal
 

@@ -1,5 +1,4 @@
-use Rattle.std.proofs.Common.{◌≡◌, ◌+◌, ◌*◌, ◌-◌, subst, sym, ◌∙◌, length, ℕ, refl, arith}
-use Rattle.css_record.specs.Windows.{window}
+use Rattle.std.proofs.Common.{◌≡◌, ◌+◌, ◌*◌, ◌-◌, subst, length, ℕ, arith}
 use Rattle.css_objects.specs.Found.{NoneMeets, IsLastMeeting}
 use Rattle.css_objects.proofs.OneRowSearches.{NoneFrom, RowsTake, from_end, from_row, none_shares, last_shares, rows_begin, row_takes, rows_end}
 use Rattle.css_objects.proofs.search.last_sharing_row.Goals as goal

@@ -1,4 +1,4 @@
-use Rattle.std.proofs.Common.{◌≡◌, true, false, sym, ◌∙◌, arith}
+use Rattle.std.proofs.Common.{true, false, sym, ◌∙◌, arith}
 use Rattle.css_record.specs.Windows.{window}
 use Rattle.css_semantics.proofs.WindowRanges.{left_all, left_found, left_next, left_none, met}
 use Rattle.css_objects.proofs.window.rows_share_with.Goals as goal

@@ -1,4 +1,4 @@
-use Rattle.std.proofs.Common.{List, sym, subst, length, ℕ, MatchOption, arith}
+use Rattle.std.proofs.Common.{List, subst, MatchOption, arith}
 use Rattle.css_record.specs.declared.window.Window.{Window}
 use Rattle.css_objects.specs.Found.{NoneShares, IsLastSharing}
 use Rattle.css_objects.proofs.Tables.{part_windows, part_length, part_at}

@@ -1,5 +1,7 @@
 use Rattle.std.proofs.Common.{◌≡◌, ◌&&◌, Bool, true, false, not, is_some, is_none, Option, Some, None, refl, sym, ap, ◌∙◌}
 use Rattle.css_objects.specs.declared.ordered.Found.{Found}
+use Rattle.css_objects.specs.Table.{objects}
+use Rattle.css_objects.proofs.Joins.{frame_meets}
 use Rattle.css_objects.proofs.Tables.{frame_answer}
 use Rattle.css_objects.proofs.table.ObjectTable.leaves_frame.Goals as goal
 
@@ -23,3 +25,9 @@ returns-else-row-clause-answer g c =
     c.if-row.false
     ∙ sym (ap (λ x. x && is_none c.last_block.result) (none_by c.last_row.result c.is_none-row.result c.is_none-row.ensures ∙ c.if-row.false))
     ∙ frame_answer t.rows t.blocks c.args.self.now c.self.view_is c.args.window c.last_row.result c.last_block.result c.last_row.ensures.found c.last_block.ensures.found
+
+pub returns-then-row-clause-frame : goal.returns-then-row-clause-frame
+returns-then-row-clause-frame g c one = frame_meets c.args.window (objects c.args.self.now) c.is_none-block.result (returns-then-row-clause-answer g c) one
+
+pub returns-else-row-clause-frame : goal.returns-else-row-clause-frame
+returns-else-row-clause-frame g c one = frame_meets c.args.window (objects c.args.self.now) c.is_none-row.result (returns-else-row-clause-answer g c) one
