@@ -8,18 +8,32 @@ which a limit on units ends.
 """
 import random
 
-SMALL = ["0", "1", "2", "3", "5", "7", "10", "31", "48", "65", "255", "256", "1000", "0x7fffffff", "0x10000", "017", "'a'", "'\\n'", "2147483647"]
+# Constants of the small language.
+SMALL = [
+    "0", "1", "2", "3", "5", "7", "10", "31", "48", "65", "255", "256", "1000", "0x7fffffff", "0x10000", "017", "'a'", "'\\n'",
+    "2147483647",
+]
+# Constants of the other integer types.
+WIDE = [
+    "4000000000u", "0xffffffff", "1ll << 40", "0x123456789abcdef", "9223372036854775807ll", "0xffffffffffffffffu", "'\\\\'", "077u",
+]
 # What Broken puts into a text.
 BYTES = "#\"'\\/*(){}[];,@$`\x01\t\x0b\x0c\r 0x9_?:\x7f\x80\xff\x00"
-TOKENS = [" /* ", " */ ", " // ", " ' ", ' "a" ', " '' ", "'\\x100'", "'\\q'", "'ab'", " 09 ", " 0x ", " 1.5 ", " 1e+3 ", " 5lul ", " 5uLL ", " 99999999999999999999 ",
-          " 0xffffffffffffffff ", " 2147483648 ", " switch ", " float ", " static ", " extern ", "\\\n", "\\\r\n", " \\\n", " ... ", " -> ", " ++", "--", " += ",
-          " else ", " } ", " { ", " ( ", " ) ", " [ ", " ; ", " , ", " int ", " void ", " return ", " NULL ", " EOF ", " #", "(" * 199, "(" * 201, "{" * 190]
-LINES = ["#", "# define LIMIT 31", "#define LIMIT 32", "#define A(x) x", "#define A (x) x", "#define int int", "#define p q", "#define q p", "#define 3 3", "#define",
-         "#undef LIMIT", "#undef int char", "#undef", "#if 1", "#error x", "#include <a'b> // c", "#include /* d", "#pragma omp ' \"", "#pragma css", "#pragma css start",
-         "#pragma css wait on(x)", "#pragma css task", "#pragma css task inout(p)", "#pragma css start finish", "#pragma css barrier // e", "# /* f */ pragma css start",
-         "#pragma css \\", "  /* # */ # pragma", "int g;", "int h(void);", "/* a", "*/", "// \\", "%:define A 1", "#define NULL 0", "#define css omp", "#define pragma x",
-         "#define barrier start", "#pragma barrier", "# 1", "'", "\"", "\\"]
-OPERATORS = ["+", "-", "*", "&", "|", "^", "<<", ">>", "<", ">", "<=", ">=", "==", "!=", "&&", "||", "/", "%"]
+TOKENS = [
+    " /* ", " */ ", " // ", " ' ", " \"a\" ", " '' ", "'\\x100'", "'\\q'", "'ab'", " 09 ", " 0x ", " 1.5 ", " 1e+3 ", " 5lul ", " 5uLL ",
+    " 99999999999999999999 ", " 0xffffffffffffffff ", " 2147483648 ", " switch ", " float ", " static ", " extern ", "\\\n", "\\\r\n",
+    " \\\n", " ... ", " -> ", " ++", "--", " += ", " else ", " } ", " { ", " ( ", " ) ", " [ ", " ; ", " , ", " int ", " void ",
+    " return ", " NULL ", " EOF ", " #", "(" * 199, "(" * 201, "{" * 190,
+]
+LINES = [
+    "#", "# define LIMIT 31", "#define LIMIT 32", "#define A(x) x", "#define A (x) x", "#define int int", "#define p q", "#define q p",
+    "#define 3 3", "#define", "#undef LIMIT", "#undef int char", "#undef", "#if 1", "#error x", "#include <a'b> // c", "#include /* d",
+    "#pragma omp ' \"", "#pragma css", "#pragma css start", "#pragma css wait on(x)", "#pragma css task", "#pragma css task inout(p)",
+    "#pragma css start finish", "#pragma css barrier // e", "# /* f */ pragma css start", "#pragma css \\", "  /* # */ # pragma",
+    "int g;", "int h(void);", "/* a", "*/", "// \\", "%:define A 1", "#define NULL 0", "#define css omp", "#define pragma x",
+    "#define barrier start", "#pragma barrier", "# 1", "'", "\"", "\\",
+]
+OPERATORS = "+ - * / % & | ^ << >> + - * % ^ < > <= >= == != && ||".split()
 # The integer types by one spelling, with their bits.
 TYPES = {"char": 8, "signed char": 8, "short": 16, "unsigned short": 16, "int": 32, "unsigned": 32, "long": 32, "unsigned long int": 32,
          "long long": 64, "unsigned long long": 64}
@@ -400,7 +414,7 @@ class Whole(Maker):
     def number(self):
         if self.chance(70):
             return self.pick(SMALL)
-        return self.pick(["4000000000u", "0xffffffff", "1ll << 40", "0x123456789abcdef", "9223372036854775807ll", "0xffffffffffffffffu", "'\\\\'", "077u"])
+        return self.pick(WIDE)
 
     def value(self, depth=3):
         if depth == 0 or self.chance(20):
@@ -829,7 +843,7 @@ class Whole(Maker):
 
     def wait(self):
         them = self.random.sample(self.objects, self.between(1, min(2, len(self.objects))))
-        words = [it.pointer for it in them] + ["(char *)(1 / 0)"] * self.wild(4)
+        words = [it.pointer for it in them] + ["(char *)(1 / 0)"] * self.wild(8)
         self.directive(f"wait on({', '.join(words)})")
         for it in them:
             self.pending.pop(it, None)
