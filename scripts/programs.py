@@ -277,9 +277,10 @@ class Small(Maker):
             self.taken = before
         if self.is_started:
             self.pending |= set(self.taken)
+        # The body may run no times, so what it waits for stays pending behind it.
+        left = set(self.pending)
         self.loop(lambda: [self.statement(level - 1) for _ in range(self.between(1, 3))], level)
-        if self.is_started:
-            self.pending |= set(self.taken)
+        self.pending = left
         self.taken = before
 
     def main_branch(self, level):

@@ -168,7 +168,7 @@ class Whole(Maker):
             operator = self.pick(["+=", "-=", "*=", "&=", "|=", "^="] + ["<<=", ">>=", "/="] * (not self.is_portable and self.wild(30)))
             self.put(f"{place} {operator} {self.value(2)};")
         else:
-            self.put(self.pick([f"{place}++;", f"++{place};", f"{place}--;"]))
+            self.put(self.pick([f"({place})++;", f"++{place};", f"({place})--;"]))
 
     def over(self, count, body):
         """Puts a loop over the numbers below a count."""
@@ -553,14 +553,13 @@ class Whole(Maker):
         before = self.taken
         among = self.objects if before is None else before
         self.taken = self.random.sample(among, (len(among) + 1) // 2)
-        self.note_taken()
-        self.loop(lambda: [self.statement(level - 1) for _ in range(self.between(1, 3))])
-        self.note_taken()
-        self.taken = before
-
-    def note_taken(self):
         if self.is_started:
             self.pending.update({it: "w" for it in self.taken})
+        # The body may run no times, so what it waits for stays pending behind it.
+        left = dict(self.pending)
+        self.loop(lambda: [self.statement(level - 1) for _ in range(self.between(1, 3))])
+        self.pending = left
+        self.taken = before
 
     def main_branch(self, level):
         before, after = dict(self.pending), [dict(self.pending)]
