@@ -135,6 +135,7 @@ fn pends<L: Ledger>(table: &ObjectTable, base: u32, steps: &mut Steps<L>) -> boo
 }
 
 // A call of one int.
+#[derive(Clone, Copy)]
 struct Int {
     number: u64,
     base: u32,
