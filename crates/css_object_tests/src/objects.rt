@@ -1,5 +1,6 @@
 //! Objects that calls enter, main's stores take and probes find.
-ghost use Rattle.std.specs.Prelude.{◌≡◌, ◌≤◌, ◌<◌, IfOk};
+ghost use Rattle.std.specs.Prelude.{◌≡◌, ◌≤◌, ◌<◌, length, IfOk};
+ghost use Rattle.css_objects.specs.Arguments.{HaveElements};
 ghost use Rattle.css_record.specs.Windows as records;
 
 use css_base::{Buffer, Direction, NoMemory, Rule};
@@ -41,7 +42,38 @@ fn ints(
     })
 }
 
+// One copy of one byte.
+fn snapshots_of(alloc: Global) -> Result<Vec<Option<Buffer>>, NoMemory>
+    ensures { IfOk result (λ s. length s.items ≡ 1) }
+{
+    let bytes = Buffer::new(alloc, Vec::from_slice(alloc, b"a")?)?;
+    let mut snapshots = Vec::new(alloc);
+    snapshots.push(Some(bytes))?;
+    Ok(snapshots)
+}
+
 // Judges a call of one argument and enters it, with a snapshot of one byte for what it reads.
+fn judged<L: Ledger>(
+    table: &mut ObjectTable,
+    alloc: Global,
+    arguments: &[Argument],
+    number: u64,
+    steps: &mut Steps<L>,
+) -> Result<Result<Named, Rule>, NoMemory>
+    requires one { length arguments.now ≡ 1 }
+    requires elements { HaveElements arguments.now }
+{
+    match table.judge(arguments, &LAYOUT, STORE, steps) {
+        Ok(()) => {
+            let snapshots = snapshots_of(alloc)?;
+            let named = table.name_args(alloc, arguments, number, snapshots)?;
+            Ok(Ok(named))
+        }
+        Err(rule) => Ok(Err(rule)),
+    }
+}
+
+// The same of an argument by itself.
 fn enter<L: Ledger>(
     table: &mut ObjectTable,
     alloc: Global,
@@ -53,16 +85,7 @@ fn enter<L: Ledger>(
 {
     let mut arguments = Vec::new(alloc);
     arguments.push(argument)?;
-    match table.judge(&arguments, &LAYOUT, STORE, steps) {
-        Ok(()) => {
-            let bytes = Buffer::new(alloc, Vec::from_slice(alloc, b"a")?)?;
-            let mut snapshots = Vec::new(alloc);
-            snapshots.push(Some(bytes))?;
-            let named = table.name_args(alloc, &arguments, number, snapshots)?;
-            Ok(Ok(named))
-        }
-        Err(rule) => Ok(Err(rule)),
-    }
+    judged(table, alloc, &arguments, number, steps)
 }
 
 // Enters a call that must be let through.
@@ -101,51 +124,97 @@ fn stands<L: Ledger>(table: &ObjectTable, window: Window, steps: &mut Steps<L>) 
     }
 }
 
+// Whether a task that reads an int at an address needs its bytes.
+fn needs<L: Ledger>(table: &ObjectTable, base: u32, steps: &mut Steps<L>) -> bool {
+    table.needs_snapshot(Window::plain(base, 4), steps)
+}
+
+// Whether an object of a base is pending.
+fn pends<L: Ledger>(table: &ObjectTable, base: u32, steps: &mut Steps<L>) -> bool {
+    table.pending_at(base, steps).is_some()
+}
+
+// A call of one int.
+#[derive(Clone, Copy)]
+struct Int {
+    number: u64,
+    base: u32,
+    direction: Direction,
+}
+
 // Enters a call that must be let through, of one int.
 fn one<L: Ledger>(
     rt: &impl Abort,
     table: &mut ObjectTable,
     alloc: Global,
-    call: (u64, u32, Direction),
+    call: &Int,
     steps: &mut Steps<L>,
 ) -> Result<(), NoMemory> {
-    let (number, base, direction) = call;
-    let argument = ints(alloc, base, &[1], direction)?;
-    let _named = let_in(rt, table, alloc, argument, number, steps)?;
+    let argument = ints(alloc, call.base, &[1], call.direction)?;
+    let _named = let_in(rt, table, alloc, argument, call.number, steps)?;
     Ok(())
 }
 
 // 1,000 objects of four bytes, eight bytes apart.
 fn many<L: Ledger>(
     rt: &impl Abort,
+    table: &mut ObjectTable,
     alloc: Global,
     steps: &mut Steps<L>,
-) -> Result<ObjectTable, NoMemory> {
-    let mut table = ObjectTable::new(alloc);
-    for number in 0..1_000u32 {
-        let call = (u64::from(number), 4_096 + 8 * number, Direction::In);
-        one(rt, &mut table, alloc, call, steps)?;
+) -> Result<(), NoMemory> {
+    for place in 0..1_000u32 {
+        let call = Int {
+            number: u64::from(place),
+            base: 4_096 + 8 * place,
+            direction: Direction::In,
+        };
+        one(rt, table, alloc, &call, steps)?;
     }
-    Ok(table)
+    Ok(())
 }
 
-fn probes<L: Ledger>(rt: &impl Abort, alloc: Global, steps: &mut Steps<L>) -> Result<(), NoMemory> {
-    let table = many(rt, alloc, steps)?;
-    check(
-        rt,
-        "equal",
-        stands(&table, Window::plain(12_088, 4), steps) == 1,
-    );
-    check(
-        rt,
-        "nothing",
-        stands(&table, Window::plain(12_092, 4), steps) == 0,
-    );
-    check(
-        rt,
-        "crosses",
-        stands(&table, Window::plain(12_084, 8), steps) == 12_088,
-    );
+// How a window of four or of eight bytes stands to those objects.
+struct Standing {
+    base: u32,
+    is_wide: bool,
+    stands: u32,
+}
+
+static STANDINGS: [Standing; 3] = [
+    Standing {
+        base: 12_088,
+        is_wide: false,
+        stands: 1,
+    },
+    Standing {
+        base: 12_092,
+        is_wide: false,
+        stands: 0,
+    },
+    Standing {
+        base: 12_084,
+        is_wide: true,
+        stands: 12_088,
+    },
+];
+
+fn is_standing<L: Ledger>(table: &ObjectTable, row: &Standing, steps: &mut Steps<L>) -> bool {
+    if row.is_wide {
+        return stands(table, Window::plain(row.base, 8), steps) == row.stands;
+    }
+    stands(table, Window::plain(row.base, 4), steps) == row.stands
+}
+
+fn probes<L: Ledger>(
+    rt: &impl Abort,
+    table: &mut ObjectTable,
+    alloc: Global,
+    steps: &mut Steps<L>,
+) -> Result<(), NoMemory> {
+    many(rt, table, alloc, steps)?;
+    for row in &STANDINGS {
+        check(rt, "standing", is_standing(table, row, steps));
+    }
     check(rt, "last", table.object(999).is_some());
     check(rt, "none", table.object(1_000).is_none());
     Ok(())
@@ -218,40 +287,53 @@ fn entered<L: Ledger>(
     Ok(())
 }
 
+// How many versions tasks make.
+fn makes(table: &ObjectTable, alloc: Global) -> Result<usize, NoMemory> {
+    Ok(table.made(alloc)?.len())
+}
+
+// The bytes of one int.
+fn bytes_of(alloc: Global) -> Result<Vec<Buffer>, NoMemory> {
+    let bytes = Buffer::new(alloc, Vec::from_slice(alloc, b"abcd")?)?;
+    let mut kept = Vec::new(alloc);
+    kept.push(bytes)?;
+    Ok(kept)
+}
+
 // Puts bytes in the place of the one version that a task makes.
 fn keep(rt: &impl Abort, table: &mut ObjectTable, alloc: Global) -> Result<(), NoMemory> {
-    let mut kept = Vec::new(alloc);
-    kept.push(Buffer::new(alloc, Vec::from_slice(alloc, b"abcd")?)?)?;
-    check(rt, "made", table.made(alloc)?.len() == 1);
-    table.regenerated(kept);
-    check(rt, "kept", table.made(alloc)?.is_empty());
+    check(rt, "made", makes(table, alloc)? == 1);
+    table.regenerated(bytes_of(alloc)?);
+    check(rt, "kept", makes(table, alloc)? == 0);
+    Ok(())
+}
+
+fn rows<L: Ledger>(
+    rt: &impl Abort,
+    table: &mut ObjectTable,
+    alloc: Global,
+    steps: &mut Steps<L>,
+) -> Result<(), NoMemory> {
+    for row in &ROWS {
+        entered(rt, table, alloc, row, steps)?;
+    }
     Ok(())
 }
 
 fn versions<L: Ledger>(
     rt: &impl Abort,
+    table: &mut ObjectTable,
     alloc: Global,
     steps: &mut Steps<L>,
 ) -> Result<(), NoMemory> {
-    let mut table = ObjectTable::new(alloc);
-    check(
-        rt,
-        "needs",
-        table.needs_snapshot(Window::plain(4_096, 4), steps),
-    );
-    for row in &ROWS {
-        entered(rt, &mut table, alloc, row, steps)?;
-    }
-    check(
-        rt,
-        "there",
-        !table.needs_snapshot(Window::plain(4_096, 4), steps),
-    );
+    check(rt, "needs", needs(table, 4_096, steps));
+    rows(rt, table, alloc, steps)?;
+    check(rt, "there", !needs(table, 4_096, steps));
     check(rt, "load", !table.allows_load(4_099, 1, steps));
-    keep(rt, &mut table, alloc)?;
-    entered(rt, &mut table, alloc, &KEPT, steps)?;
+    keep(rt, table, alloc)?;
+    entered(rt, table, alloc, &KEPT, steps)?;
     table.waited(4_096);
-    check(rt, "waited", table.pending_at(4_096, steps).is_none());
+    check(rt, "waited", !pends(table, 4_096, steps));
     Ok(())
 }
 
@@ -271,81 +353,165 @@ fn store<L: Ledger>(
 }
 
 // Three ints that are read, and a fourth one that is written.
-static INTS: [(u64, u32, Direction); 4] = [
-    (0, 4_096, Direction::In),
-    (1, 4_100, Direction::In),
-    (2, 4_104, Direction::In),
-    (3, 4_108, Direction::Out),
+static INTS: [Int; 4] = [
+    Int {
+        number: 0,
+        base: 4_096,
+        direction: Direction::In,
+    },
+    Int {
+        number: 1,
+        base: 4_100,
+        direction: Direction::In,
+    },
+    Int {
+        number: 2,
+        base: 4_104,
+        direction: Direction::In,
+    },
+    Int {
+        number: 3,
+        base: 4_108,
+        direction: Direction::Out,
+    },
 ];
 
-// A store of eight bytes takes two objects that are only read, and no third one beside them.
-fn stores<L: Ledger>(rt: &impl Abort, alloc: Global, steps: &mut Steps<L>) -> Result<(), NoMemory> {
-    let mut table = ObjectTable::new(alloc);
-    for call in INTS {
-        one(rt, &mut table, alloc, call, steps)?;
+fn four<L: Ledger>(
+    rt: &impl Abort,
+    table: &mut ObjectTable,
+    alloc: Global,
+    steps: &mut Steps<L>,
+) -> Result<(), NoMemory> {
+    for call in &INTS {
+        one(rt, table, alloc, call, steps)?;
     }
-    check(rt, "no store", !table.allows_store(4_104, 8, steps));
-    for taken in [Some(4_100), Some(4_096), None] {
-        let window = store(rt, &mut table, 4_096, 8, steps);
-        check(rt, "taken", window.map(|w| w.base) == taken);
-    }
-    check(
-        rt,
-        "third",
-        stands(&table, Window::plain(4_104, 4), steps) == 1,
-    );
-    check(
-        rt,
-        "frame",
-        !table.leaves_frame(Window::plain(4_100, 8), steps),
-    );
     Ok(())
+}
+
+// The bases of the objects that a store of the first eight bytes takes, one after another; 0 for none.
+static TAKEN: [u32; 3] = [4_100, 4_096, 0];
+
+fn takes<L: Ledger>(rt: &impl Abort, table: &mut ObjectTable, steps: &mut Steps<L>) -> u32 {
+    match store(rt, table, 4_096, 8, steps) {
+        Some(w) => w.base,
+        None => 0,
+    }
+}
+
+// A store of eight bytes takes two objects that are only read, and no third one beside them.
+fn stores<L: Ledger>(
+    rt: &impl Abort,
+    table: &mut ObjectTable,
+    alloc: Global,
+    steps: &mut Steps<L>,
+) -> Result<(), NoMemory> {
+    four(rt, table, alloc, steps)?;
+    check(rt, "no store", !table.allows_store(4_104, 8, steps));
+    for taken in &TAKEN {
+        check(rt, "taken", takes(rt, table, steps) == *taken);
+    }
+    check(rt, "third", pends(table, 4_104, steps));
+    check(rt, "frame", !leaves(table, 4_100, steps));
+    Ok(())
+}
+
+// Whether main may leave a frame of eight bytes.
+fn leaves<L: Ledger>(table: &ObjectTable, base: u32, steps: &mut Steps<L>) -> bool {
+    table.leaves_frame(Window::plain(base, 8), steps)
+}
+
+// A block of 8 rows of a matrix whose rows have 8 ints, and the rule that it breaks.
+struct Block {
+    base: u32,
+    width: i64,
+    rule: Option<Rule>,
 }
 
 // Two blocks of a matrix of 8 rows of 8 ints stand side by side; one that is shifted by two columns meets both, and one that is wider
 // than its stride is none. A matrix as a block is one row.
-static BLOCKS: [(u32, [i64; 3], Option<Rule>); 5] = [
-    (4_096, [8, 4, 8], None),
-    (4_112, [8, 4, 8], None),
-    (4_104, [8, 4, 8], Some(Rule::PartialOverlap)),
-    (4_104, [8, 9, 8], Some(Rule::Dimension)),
-    (8_192, [8, 8, 8], None),
+static BLOCKS: [Block; 5] = [
+    Block {
+        base: 4_096,
+        width: 4,
+        rule: None,
+    },
+    Block {
+        base: 4_112,
+        width: 4,
+        rule: None,
+    },
+    Block {
+        base: 4_104,
+        width: 4,
+        rule: Some(Rule::PartialOverlap),
+    },
+    Block {
+        base: 4_104,
+        width: 9,
+        rule: Some(Rule::Dimension),
+    },
+    Block {
+        base: 8_192,
+        width: 8,
+        rule: None,
+    },
 ];
 
 // The rule that a call of one block breaks.
 fn broken<L: Ledger>(
     table: &mut ObjectTable,
     alloc: Global,
-    base: u32,
-    dimensions: &[i64],
+    block: &Block,
     steps: &mut Steps<L>,
 ) -> Result<Option<Rule>, NoMemory> {
-    let argument = ints(alloc, base, dimensions, Direction::InOut)?;
+    let dimensions = [8, block.width, 8];
+    let argument = ints(alloc, block.base, &dimensions, Direction::InOut)?;
     match enter(table, alloc, argument, 0, steps)? {
         Ok(_) => Ok(None),
         Err(rule) => Ok(Some(rule)),
     }
 }
 
-fn blocks<L: Ledger>(rt: &impl Abort, alloc: Global, steps: &mut Steps<L>) -> Result<(), NoMemory> {
-    let mut table = ObjectTable::new(alloc);
-    for (base, dimensions, rule) in BLOCKS {
-        let answer = broken(&mut table, alloc, base, &dimensions, steps)?;
-        check(rt, "block", answer == rule);
-    }
-    let crossing = Window {
+fn crossing<L: Ledger>(table: &ObjectTable, steps: &mut Steps<L>) -> u32 {
+    let window = Window {
         base: 4_104,
         rows: 8,
         width: 16,
         stride: 32,
     };
-    check(rt, "crosses", stands(&table, crossing, steps) == 4_112);
-    check(
-        rt,
-        "one object",
-        stands(&table, Window::plain(8_192, 256), steps) == 1,
-    );
+    stands(table, window, steps)
+}
+
+fn blocks<L: Ledger>(
+    rt: &impl Abort,
+    table: &mut ObjectTable,
+    alloc: Global,
+    steps: &mut Steps<L>,
+) -> Result<(), NoMemory> {
+    for block in &BLOCKS {
+        let rule = broken(table, alloc, block, steps)?;
+        check(rt, "block", rule == block.rule);
+    }
+    check(rt, "crosses", crossing(table, steps) == 4_112);
+    let whole = stands(table, Window::plain(8_192, 256), steps);
+    check(rt, "one object", whole == 1);
     Ok(())
+}
+
+// Each begins with an empty table.
+fn each<L: Ledger>(
+    rt: &impl Abort,
+    table: &mut ObjectTable,
+    alloc: Global,
+    steps: &mut Steps<L>,
+) -> Result<(), NoMemory> {
+    probes(rt, table, alloc, steps)?;
+    table.settled();
+    versions(rt, table, alloc, steps)?;
+    table.settled();
+    stores(rt, table, alloc, steps)?;
+    table.settled();
+    blocks(rt, table, alloc, steps)
 }
 
 fn all<L: Ledger, R: Abort>(rt: &R, alloc: Global, blank: Blank) -> Result<(), NoMemory>
@@ -354,10 +520,8 @@ fn all<L: Ledger, R: Abort>(rt: &R, alloc: Global, blank: Blank) -> Result<(), N
     requires some { 0 < L.parts }
 {
     let mut steps = Steps::<L>::new(blank);
-    probes(rt, alloc, &mut steps)?;
-    versions(rt, alloc, &mut steps)?;
-    stores(rt, alloc, &mut steps)?;
-    blocks(rt, alloc, &mut steps)
+    let mut table = ObjectTable::new(alloc);
+    each(rt, &mut table, alloc, &mut steps)
 }
 
 // Probes, versions, stores and blocks.
