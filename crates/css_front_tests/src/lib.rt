@@ -1,4 +1,4 @@
-//! Tests of the front end over texts: the lexer, the readers of expressions and of programs, and the small language.
+//! Tests of the front end over texts: the lexer, and the readers of expressions and of programs.
 #![tactic(auto)]
 
 #[cfg(test)]
@@ -7,7 +7,5 @@ mod expressions;
 mod lexer;
 #[cfg(test)]
 mod programs;
-#[cfg(test)]
-mod small;
 #[cfg(test)]
 mod texts;

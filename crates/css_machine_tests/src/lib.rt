@@ -1,9 +1,7 @@
-//! Tests of the machine, of main's memory, of main's memory under the rules, and of the code that is made.
+//! Tests of the machine, of main's memory, and of main's memory under the rules.
 #![tactic(auto)]
 
 #[cfg(test)]
 mod judged;
 #[cfg(test)]
 mod machine;
-#[cfg(test)]
-mod small_code;
