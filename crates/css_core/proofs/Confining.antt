@@ -13,7 +13,7 @@ use Rattle.css_semantics.proofs.Following.{both_of_machine}
 use Rattle.css_core.specs.Core.{Expression, Number, Local, Given, Value, Assign, Update, Convert, Unary, Binary, And, Or, Choice, Sequence, Call, Expressions, Empty, More, Gives, Statement, Eval, Block, If, Loop, Break, Continue, Return, Statements, Nothing, Then, Task, Function, Program}
 use Rattle.css_core.specs.Expressions.{address_of, bytes_of, is_true, given_by, Calling, load, store, given, update, value_of, values_of}
 use Rattle.css_core.specs.Statements.{Flow, Next, Broke, Continued, Returned, on_next, on_turn, testing, turning, value_in, meaning, meanings}
-use Rattle.css_core.specs.Functions.{Exit, stores, applied, left, plain_call, called_as, called, calls}
+use Rattle.css_core.specs.Functions.{Exit, stores, applied, left, plain_call, called_as, called, spent_as, spent, calls}
 use Rattle.css_core.specs.Confined.{is_inner, are_inner, is_inner_statement, are_inner_statements, is_no_task, IsConfined}
 
 -- ---- tapes to which a machine alone adds
@@ -202,8 +202,17 @@ module _ (w : World) (p : Program) (confined : IsConfined p) where
       by None h = adds_plain_call w may_call call adds_call fuel f (inner f refl) values line t
       by (Some task) h = cc
 
+  -- where the fuel is spent, the call of what is no task asks nothing
+  adds_spent : (f : Option Function) → IsTrue (is_no_task f) → (values : List ℤ) (line : ℕ) (t : Tape) → Adds t (spent w f values line t)
+  adds_spent None plain values line t = ([], refl, tt)
+  adds_spent (Some f) plain values line t = by f.task plain
+    where
+      by : (task : Option Task) → IsTrue (is_none task) → Adds t (spent_as w task values line t)
+      by None h = ([], refl, tt)
+      by (Some task) h = cc
+
   adds_calls : (fuel function : ℕ) → IsTrue (may_call function) → (values : List ℤ) (base line : ℕ) (t : Tape) → Adds t (calls w p.functions fuel function values base line t)
-  adds_calls zero function is values base line t = ([], refl, tt)
+  adds_calls zero function is values base line t = adds_spent (slice_get p.functions function) (both (confined.inner function) (is_no_task (slice_get p.functions function)) is).1 values line t
   adds_calls (suc fuel) function is values base line t =
       let parts = both (confined.inner function) (is_no_task (slice_get p.functions function)) is in
       adds_called (calls w p.functions fuel) (adds_calls fuel) fuel function (slice_get p.functions function) (λ x e. confined.bodies function x e parts.0) parts.1 values base line t

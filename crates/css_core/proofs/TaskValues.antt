@@ -9,7 +9,7 @@ use Rattle.css_core.specs.Statements.{Flow, Next, Broke, Continued, Returned, me
 use Rattle.css_core.specs.Functions.{Exit, exit_by, stores, applied, left, plain_call, pointers, task_body, called_as, called, calls}
 use Rattle.css_core.specs.Typed.{Signature, signature, IsTaskOf, IsTypedFunction, IsTypedProgram}
 use Rattle.css_core.proofs.Leaving.{Comes, gives_then, gives_after, gives_if, all_void_leave, LeftBy, left_meanings}
-use Rattle.css_core.proofs.InRange.{typed_at}
+use Rattle.css_core.proofs.InRange.{typed_at, spent_gives}
 
 abbrev IsZero : ℤ → Type 0
 IsZero v = v ≡ pos 0
@@ -58,7 +58,7 @@ module _ (w : World) (signatures : List Signature) (call : Calling) (fuel : ℕ)
 
 module _ (w : World) (p : Program) (typed : IsTypedProgram p) where
   zero_calls : (fuel number : ℕ) (f : Function) (task : Task) → slice_get p.functions number ≡ Some f → f.task ≡ Some task → (values : List ℤ) (base line : ℕ) (t : Tape) → Comes IsZero (calls w p.functions fuel number values base line t)
-  zero_calls zero number f task e is values base line t = tt
+  zero_calls zero number f task e is values base line t = spent_gives w IsZero (slice_get p.functions number) values line t
   zero_calls (suc fuel) number f task e is values base line t =
       let signatures = map signature p.functions in
       let fits = subst (λ o. IfSome o (IsTypedFunction signatures)) e (typed_at signatures p.functions typed.functions number) in
