@@ -5,4 +5,7 @@ pub mod Fronts
 pub mod Posts
 pub mod Boards
 pub mod Bundles
+pub mod Jobs
+pub mod Copies
+pub mod Runs
 pub mod NamedLines

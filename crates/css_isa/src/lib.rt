@@ -3,7 +3,7 @@
 #![tactic(auto)]
 
 mod big_endian;
-mod cells;
+pub mod cells;
 mod code;
 mod items;
 pub mod laws;

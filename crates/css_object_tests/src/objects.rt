@@ -1,10 +1,11 @@
 //! Objects that calls enter, main's stores take and probes find.
 ghost use Rattle.std.specs.Prelude.{◌≡◌, ◌≤◌, ◌<◌, length, IfOk};
-ghost use Rattle.css_objects.specs.Arguments.{HaveElements};
+ghost use Rattle.css_arguments.specs.Arguments.{HaveElements};
 ghost use Rattle.css_record.specs.Windows as records;
 
+use css_arguments::{Argument, Dims};
 use css_base::{Buffer, Direction, NoMemory, Rule};
-use css_objects::{Argument, Dims, Named, ObjectTable, Probe, Steps};
+use css_objects::{Named, ObjectTable, Probe, Steps};
 use css_record::{Layout, VersionName, Window};
 use std::alloc::Global;
 use std::marker::Brand;
@@ -12,7 +13,7 @@ use std::process::Abort;
 use std::sync::ledger::{Blank, Ledger};
 use std::test::Fail;
 
-const LAYOUT: Layout = Layout {
+pub(crate) const LAYOUT: Layout = Layout {
     globals_end: 65_536,
     heap_start: 65_536,
     heap_top: 65_536,
@@ -109,7 +110,7 @@ fn let_in<L: Ledger>(
 }
 
 // Ends the test with these words where it isn't so.
-fn check(rt: &impl Abort, words: &str, is_so: bool) {
+pub(crate) fn check(rt: &impl Abort, words: &str, is_so: bool) {
     assert!(rt; is_so, "{words}");
 }
 
@@ -130,20 +131,20 @@ fn needs<L: Ledger>(table: &ObjectTable, base: u32, steps: &mut Steps<L>) -> boo
 }
 
 // Whether an object of a base is pending.
-fn pends<L: Ledger>(table: &ObjectTable, base: u32, steps: &mut Steps<L>) -> bool {
+pub(crate) fn pends<L: Ledger>(table: &ObjectTable, base: u32, steps: &mut Steps<L>) -> bool {
     table.pending_at(base, steps).is_some()
 }
 
 // A call of one int.
 #[derive(Clone, Copy)]
-struct Int {
-    number: u64,
-    base: u32,
-    direction: Direction,
+pub(crate) struct Int {
+    pub(crate) number: u64,
+    pub(crate) base: u32,
+    pub(crate) direction: Direction,
 }
 
 // Enters a call that must be let through, of one int.
-fn one<L: Ledger>(
+pub(crate) fn one<L: Ledger>(
     rt: &impl Abort,
     table: &mut ObjectTable,
     alloc: Global,
@@ -416,7 +417,7 @@ fn stores<L: Ledger>(
 }
 
 // Whether main may leave a frame of eight bytes.
-fn leaves<L: Ledger>(table: &ObjectTable, base: u32, steps: &mut Steps<L>) -> bool {
+pub(crate) fn leaves<L: Ledger>(table: &ObjectTable, base: u32, steps: &mut Steps<L>) -> bool {
     table.leaves_frame(Window::plain(base, 8), steps)
 }
 
@@ -472,9 +473,31 @@ fn broken<L: Ledger>(
     }
 }
 
-fn crossing<L: Ledger>(table: &ObjectTable, steps: &mut Steps<L>) -> u32 {
-    let window = Window {
+// A block of 8 rows of 4 ints, and the base of the block that it crosses.
+struct Crossing {
+    base: u32,
+    crosses: u32,
+}
+
+// Shifted by a column, by two and by three it crosses both blocks, of which the one behind has the greater base.
+static CROSSINGS: [Crossing; 3] = [
+    Crossing {
+        base: 4_100,
+        crosses: 4_112,
+    },
+    Crossing {
         base: 4_104,
+        crosses: 4_112,
+    },
+    Crossing {
+        base: 4_108,
+        crosses: 4_112,
+    },
+];
+
+fn crossing<L: Ledger>(table: &ObjectTable, base: u32, steps: &mut Steps<L>) -> u32 {
+    let window = Window {
+        base,
         rows: 8,
         width: 16,
         stride: 32,
@@ -492,7 +515,13 @@ fn blocks<L: Ledger>(
         let rule = broken(table, alloc, block, steps)?;
         check(rt, "block", rule == block.rule);
     }
-    check(rt, "crosses", crossing(table, steps) == 4_112);
+    for row in &CROSSINGS {
+        check(
+            rt,
+            "crosses",
+            crossing(table, row.base, steps) == row.crosses,
+        );
+    }
     let whole = stands(table, Window::plain(8_192, 256), steps);
     check(rt, "one object", whole == 1);
     Ok(())

@@ -1,13 +1,13 @@
 -- The table with one object more, or with another version of one.
-use Rattle.std.proofs.Common.{◌≡◌, ◌≢◌, ℕ, zero, suc, ◌+◌, ◌-◌, ◌<◌, ◌≤◌, Bool, true, false, not, ◌&&◌, List, [], ◌∷◌, ◌++◌, length, map, filter, take, drop, slice_get, slice_set, slice_index, is_some, Option, Some, None, Result, Ok, Err, OnOk, OnErr, ◌⊎◌, inl, inr, refl, sym, ap, ◌∙◌, subst, All, arith, eqb, if◌then◌else◌}
+use Rattle.std.proofs.Common.{◌≡◌, ◌≢◌, ℕ, zero, suc, ◌+◌, ◌-◌, ◌<◌, ◌≤◌, Bool, true, false, not, ◌&&◌, List, [], ◌∷◌, ◌++◌, length, map, filter, slice_get, Some, None, Result, Ok, Err, OnOk, OnErr, ◌⊎◌, inl, inr, refl, sym, ap, ◌∙◌, subst, All, arith, if◌then◌else◌}
 use Rattle.std.specs.List.{list_any, insert}
 use Rattle.std.specs.List.Sorted.{IsPermutation}
-use Rattle.std.proofs.lemmas.List.{length-map, map-append}
+use Rattle.std.proofs.lemmas.List.{length-map}
 use Rattle.std.proofs.lemmas.List.Elements.{All-head, All-tail, All-nil, All-cons}
 use Rattle.std.proofs.lemmas.List.Edits.{insert-append_left, insert-append_right}
-use Rattle.std.proofs.lemmas.List.Sorted.{IsPermutation-refl, IsPermutation-sym, IsPermutation-trans, IsPermutation-insert, IsPermutation-to_front, IsPermutation-append_left, IsPermutation-append_right, IsPermutation-middle}
+use Rattle.std.proofs.lemmas.List.Sorted.{IsPermutation-refl, IsPermutation-sym, IsPermutation-trans, IsPermutation-insert, IsPermutation-to_front}
 use Rattle.std.proofs.lemmas.Option.{slice_get_within}
-use Rattle.std.proofs.lemmas.Bool.{cases_order, cases_lt, false≢true, false_from_ne_true, and_parts, and_from, eqb-true, ne_eqb}
+use Rattle.std.proofs.lemmas.Bool.{cases_order, false≢true, false_from_ne_true}
 use Rattle.css_semantics.specs.Tasks.{is_same_window}
 use Rattle.css_semantics.specs.Pending.{Object}
 use Rattle.css_semantics.specs.Rules.{share_byte, overlap}
@@ -17,17 +17,17 @@ use Rattle.css_record.specs.Windows.{window, IsWindow}
 use Rattle.css_objects.specs.declared.version.Held.{Held}
 use Rattle.css_objects.specs.declared.version.Held.TheVariants as held
 use Rattle.css_objects.specs.declared.ordered.Found.{Found}
-use Rattle.css_objects.specs.Ordered.{bases, IsAscending, IsGap, HasNone, IsOfBase}
-use Rattle.css_objects.specs.Found.{Each, IsRow, AreRows}
+use Rattle.css_objects.specs.Ordered.{IsAscending, IsGap, HasNone, IsOfBase}
+use Rattle.css_arguments.specs.Lists.{Each}
+use Rattle.css_objects.specs.Found.{IsRow, AreRows}
 use Rattle.css_objects.specs.Table.{Entry, windows, is_written, object, IsBlock, IsTable, IsInserted}
 use Rattle.css_objects.specs.Naming.{with_version, with_read}
 use Rattle.css_semantics.proofs.WindowRanges.{share-sym}
 use Rattle.css_objects.proofs.Searches.{base_at}
-use Rattle.css_objects.proofs.Lists.{any_none, any_one, map_place, place_map, place_left, place_right}
-use Rattle.css_objects.proofs.Edits.{map-remove}
+use Rattle.css_arguments.proofs.Lists.{any_none, any_one, map_place, place_map, place_left, place_right}
 use Rattle.css_objects.proofs.Inserts.{map-insert}
 use Rattle.css_objects.proofs.Keeping.{rows_of, windows_apart}
-use Rattle.css_objects.proofs.Probes.{place_split, same_window, same_base_shares, entry_window, one_entry}
+use Rattle.css_objects.proofs.Probes.{place_split, same_window, same_base_shares, entry_window}
 use Rattle.css_objects.proofs.Snapshots.{same_refl}
 use Rattle.css_objects.proofs.Stores.{none_any}
 

@@ -1,5 +1,5 @@
 -- What a call is given, one pointer after another.
-use Rattle.std.proofs.Common.{◌≡◌, ℕ, zero, suc, ◌+◌, ◌<◌, ◌≤◌, Bool, true, false, ◌&&◌, ◌||◌, List, [], ◌∷◌, ◌++◌, length, map, take, drop, slice_get, is_some, Option, Some, None, MatchOption, refl, sym, ap, ◌∙◌, subst, arith, if◌then◌else◌}
+use Rattle.std.proofs.Common.{◌≡◌, ℕ, zero, suc, ◌+◌, ◌≤◌, Bool, true, false, ◌&&◌, ◌||◌, List, [], ◌∷◌, ◌++◌, length, map, drop, slice_get, is_some, Option, Some, None, MatchOption, refl, sym, ap, ◌∙◌, subst, arith, if◌then◌else◌}
 use Rattle.std.specs.List.{list_any}
 use Rattle.std.specs.List.Sorted.{IsPermutation}
 use Rattle.std.proofs.lemmas.List.{length-map}
@@ -8,22 +8,21 @@ use Rattle.std.proofs.lemmas.List.Sorted.{IsPermutation-refl, IsPermutation-tran
 use Rattle.std.proofs.lemmas.Bool.{or_from}
 use Rattle.std.proofs.lemmas.Option.{slice_get_within}
 use Rattle.css_base.specs.declared.direction.Direction.{Direction}
-use Rattle.css_semantics.specs.Dialogue as dialogue
 use Rattle.css_semantics.specs.Tasks as tasks
 use Rattle.css_semantics.specs.Tasks.{is_same_window, writes}
-use Rattle.css_semantics.specs.Pending.{Object, is_named_by}
+use Rattle.css_semantics.specs.Pending.{Object}
 use Rattle.css_semantics.specs.Rules.{overlap, overlaps_partly}
 use Rattle.css_record.specs.declared.window.Window as coded
 use Rattle.css_record.specs.Windows.{window}
-use Rattle.css_objects.specs.declared.argument.Argument as code
+use Rattle.css_arguments.specs.declared.argument.Argument as code
 use Rattle.css_objects.specs.declared.version.Held.{Held}
 use Rattle.css_objects.specs.declared.version.Held.TheVariants as held
-use Rattle.css_objects.specs.Arguments.{given}
-use Rattle.css_objects.specs.Found.{Each}
+use Rattle.css_arguments.specs.Arguments.{given, AreWindows}
+use Rattle.css_arguments.specs.Lists.{Each}
 use Rattle.css_objects.specs.Table.{Entry, object}
-use Rattle.css_objects.specs.Naming.{Given, version_of, AreWindows, AreClear, given_by, and_read, read_for, read_by, renames, with_version, with_read, with_snapshot, with_one, next_out, with_given}
-use Rattle.css_objects.proofs.Lists.{any_map, map_place, place_map}
-use Rattle.css_objects.proofs.Looking.{within, drop_at, drop_over, take_at}
+use Rattle.css_objects.specs.Naming.{Given, version_of, AreClear, given_by, and_read, read_for, read_by, renames, with_version, with_read, with_snapshot, with_one, next_out, with_given}
+use Rattle.css_arguments.proofs.Lists.{any_map, place_map}
+use Rattle.css_arguments.proofs.Looking.{within, drop_at, drop_over}
 use Rattle.css_objects.proofs.Stores.{none_any}
 use Rattle.css_objects.proofs.Holding.{version_there}
 

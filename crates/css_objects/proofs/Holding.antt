@@ -1,19 +1,19 @@
 -- The version of a window's object.
-use Rattle.std.proofs.Common.{◌≡◌, ◌≢◌, ℕ, zero, suc, ◌<◌, Bool, true, false, ◌||◌, List, [], ◌∷◌, ◌++◌, length, map, find, cond, slice_get, slice_index, is_some, Option, Some, None, option_map, MatchOption, inl, inr, refl, sym, ap, ◌∙◌, subst, arith, if◌then◌else◌}
+use Rattle.std.proofs.Common.{◌≡◌, ◌≢◌, ℕ, zero, suc, ◌<◌, Bool, true, false, ◌||◌, List, [], ◌∷◌, ◌++◌, find, cond, slice_get, is_some, Option, Some, None, option_map, inl, inr, refl, sym, ap, ◌∙◌, subst, arith}
 use Rattle.std.specs.List.{list_any}
 use Rattle.std.proofs.lemmas.List.{length-map}
 use Rattle.std.proofs.lemmas.Option.{slice_get_within}
-use Rattle.std.proofs.lemmas.Bool.{cases_order, false≢true, false_from_ne_true}
+use Rattle.std.proofs.lemmas.Bool.{cases_order, false_from_ne_true}
 use Rattle.css_semantics.specs.Tasks.{is_same_window}
 use Rattle.css_record.specs.declared.window.Window as coded
 use Rattle.css_record.specs.Windows.{window}
 use Rattle.css_objects.specs.declared.ordered.Found.{Found}
 use Rattle.css_objects.specs.declared.version.Held.{Held}
-use Rattle.css_objects.specs.Ordered.{bases, IsAscending, IsOfBase, HasNone}
+use Rattle.css_objects.specs.Ordered.{IsAscending, IsOfBase, HasNone}
 use Rattle.css_objects.specs.Table.{Entry, windows}
 use Rattle.css_objects.specs.Naming.{version_of}
 use Rattle.css_objects.proofs.Searches.{base_at}
-use Rattle.css_objects.proofs.Lists.{map_place, place_map}
+use Rattle.css_arguments.proofs.Lists.{place_map}
 use Rattle.css_objects.proofs.Probes.{same_window}
 use Rattle.css_objects.proofs.Snapshots.{same_refl}
 

@@ -1,5 +1,5 @@
 -- Windows in order of base with one more.
-use Rattle.std.proofs.Common.{◌≡◌, ℕ, zero, suc, ◌+◌, ◌-◌, ◌<◌, ◌≤◌, Bool, true, false, cond, List, [], ◌∷◌, ◌++◌, length, map, take, drop, slice_index, slice_get, get_or, nat_eq, Option, Some, None, refl, sym, ap, ◌∙◌, subst, inl, inr, ◌⊎◌, arith}
+use Rattle.std.proofs.Common.{◌≡◌, ℕ, zero, suc, ◌+◌, ◌-◌, ◌<◌, ◌≤◌, false, cond, List, [], ◌∷◌, ◌++◌, length, map, take, drop, slice_index, slice_get, nat_eq, Some, None, refl, sym, ap, ◌∙◌, subst, inl, inr, arith}
 use Rattle.std.specs.List.{insert, remove, position_or_len}
 use Rattle.std.specs.Option.{option_map_or}
 use Rattle.std.specs.Map.{lookup, keys_of}
@@ -14,8 +14,8 @@ use Rattle.css_objects.specs.declared.ordered.Found.{Found}
 use Rattle.css_objects.specs.Ordered.{bases, IsAscending, IsInOrder, IsGap, IsLastBelow, HasNone}
 use Rattle.css_objects.proofs.Searches.{base_at}
 use Rattle.std.proofs.lemmas.Option.{slice_get_within, get_or_from_slice_get}
-use Rattle.css_objects.specs.Table.{Entry, entries}
-use Rattle.css_objects.proofs.Lists.{place_map, place_right}
+use Rattle.css_objects.specs.Table.{entries}
+use Rattle.css_arguments.proofs.Lists.{place_map, place_right}
 
 pub map-insert : {X Y : Type 0} (f : X → Y) (xs : List X) (i : ℕ) (x : X) → map f (insert xs i x) ≡ insert (map f xs) i (f x)
 map-insert f xs i x =

@@ -1,5 +1,5 @@
 -- Calls and accesses as the definitions of rules judge them, by a table that has the pending objects.
-use Rattle.std.proofs.Common.{◌≡◌, ℕ, ◌≤◌, Bool, true, false, not, ◌||◌, ◌&&◌, List, [], ◌∷◌, length, map, nat_lt, Option, Some, None, refl, sym, ap, ◌∙◌, subst, arith}
+use Rattle.std.proofs.Common.{◌≡◌, ℕ, Bool, true, false, not, ◌||◌, ◌&&◌, List, [], ◌∷◌, length, map, nat_lt, Option, Some, None, refl, sym, ap, ◌∙◌, subst}
 use Rattle.std.specs.Prelude.{IsPermutation}
 use Rattle.std.specs.List.{list_any}
 use Rattle.std.proofs.lemmas.List.Sorted.{list_any-IsPermutation}
@@ -9,37 +9,19 @@ use Rattle.css_base.specs.declared.rule.Rule.TheVariants as rules
 use Rattle.css_semantics.specs.Dialogue as dialogue
 use Rattle.css_semantics.specs.Dialogue.{Action, Calls, DimFault, Tape}
 use Rattle.css_semantics.specs.Actions.{Access, Enters, Leaves, Loads, Stores, Allots, NoAccess, access_of}
-use Rattle.css_semantics.specs.Memory.{Memory, all_from, heap_top, stack_place, is_live_byte, memory_after}
-use Rattle.css_semantics.specs.Flat.{IsLaidOut}
+use Rattle.css_semantics.specs.Memory.{Memory, all_from, is_live_byte, memory_after}
 use Rattle.css_semantics.specs.Tasks.{Window, window, Body, has_byte, body}
 use Rattle.css_semantics.specs.Pending.{Object, some_from, pending}
 use Rattle.css_semantics.specs.Rules.{share_byte, check, first_broken, checks_of_main, checks_of_task, hit, has_bad_dimension, room_of, all_of_window, overlap, overlaps_partly, has_alias, meets, meets_pending, is_unsynchronised}
 use Rattle.css_record.specs.declared.window.Window as coded
 use Rattle.css_record.specs.Windows.{window as coded_window}
 use Rattle.css_record.specs.declared.layout.Layout.{Layout}
-use Rattle.css_objects.specs.declared.argument.Argument as code
-use Rattle.css_objects.specs.Arguments.{given, is_stopped, is_unfit}
+use Rattle.css_arguments.specs.declared.argument.Argument as code
+use Rattle.css_arguments.specs.Arguments.{given, is_stopped, is_unfit}
 use Rattle.css_objects.specs.Table.{Table, objects}
-use Rattle.css_objects.specs.Judged.{layout_of, is_live_at, IsLayout, broken_by}
+use Rattle.css_arguments.specs.Layouts.{layout_of, is_live_at}
+use Rattle.css_objects.specs.Judged.{broken_by}
 use Rattle.css_objects.proofs.Judges.{broken}
-
--- ---- layouts
-
--- a memory's layout stands in order, where its heap doesn't reach into its stack
-pub ordered : (m : Memory) → heap_top m ≤ stack_place m → IsLayout (layout_of m)
-ordered m below = record {
-  globals = omega arith;
-  heap = omega arith;
-  top = omega arith;
-  stack = below;
-  end = omega arith;
-}
-
--- so it does where the memory is laid out and its stack is within its limit
-pub laid_out : (size : ℕ) (m : Memory) → IsLaidOut size m → length m.stack ≤ m.limit.bytes → IsLayout (layout_of m)
-laid_out size m laid within =
-    let bytes : m.limit.bytes ≡ 1064960 = ap (λ l. l.bytes) laid.limit in
-    ordered m (omega (arith, within, bytes, laid.end, laid.room))
 
 -- ---- dimensions
 

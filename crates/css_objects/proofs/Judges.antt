@@ -8,11 +8,11 @@ use Rattle.css_semantics.specs.Dialogue.{Argument}
 use Rattle.css_semantics.specs.Tasks.{Window, window}
 use Rattle.css_semantics.specs.Pending.{Object}
 use Rattle.css_semantics.specs.Rules.{check, first_broken, overlap, overlaps_partly}
-use Rattle.css_objects.specs.declared.argument.Argument as code
+use Rattle.css_arguments.specs.declared.argument.Argument as code
 use Rattle.css_objects.specs.Found.{TakesAtMost}
-use Rattle.css_objects.specs.Arguments.{is_unfit, HaveElements, AreFit}
+use Rattle.css_arguments.specs.Arguments.{is_unfit, HaveElements, AreFit}
 use Rattle.css_objects.specs.Judged.{steps_of, judgement}
-use Rattle.css_objects.proofs.Looking.{drop_at}
+use Rattle.css_arguments.proofs.Looking.{drop_at}
 use Rattle.css_objects.proofs.Stores.{none_any}
 
 -- ---- the first rule that is broken

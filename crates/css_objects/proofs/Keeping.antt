@@ -12,11 +12,12 @@ use Rattle.css_semantics.proofs.Apart.{filter-apart}
 use Rattle.css_record.specs.declared.window.Window as coded
 use Rattle.css_record.specs.Windows.{window}
 use Rattle.css_objects.specs.Ordered.{IsAscending, HasNone}
-use Rattle.css_objects.specs.Found.{Each, IsRow, AreRows}
+use Rattle.css_arguments.specs.Lists.{Each}
+use Rattle.css_objects.specs.Found.{IsRow, AreRows}
 use Rattle.css_objects.specs.Table.{Entry, windows, is_written, is_other, without, object, IsBlock, IsTable}
 use Rattle.css_semantics.proofs.WindowRanges.{share_is_rows, share_by, rows_by}
 use Rattle.css_objects.proofs.Searches.{base_at}
-use Rattle.css_objects.proofs.Lists.{map_place, place_map, place_left}
+use Rattle.css_arguments.proofs.Lists.{map_place, place_map, place_left}
 use Rattle.css_objects.proofs.Probes.{apart_at}
 
 -- ---- filters

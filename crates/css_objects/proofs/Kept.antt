@@ -1,14 +1,14 @@
 -- Versions with bytes in the places of what tasks make.
-use Rattle.std.proofs.Common.{◌≡◌, ℕ, zero, suc, ◌+◌, ◌<◌, ◌≤◌, Bool, true, false, List, [], ◌∷◌, ◌++◌, length, map, filter, take, drop, slice_get, slice_set, is_some, Option, Some, refl, sym, ap, ◌∙◌, subst, arith, if◌then◌else◌}
+use Rattle.std.proofs.Common.{◌≡◌, ℕ, suc, Bool, true, false, List, [], ◌∷◌, ◌++◌, length, map, filter, take, drop, is_some, refl, sym, ap, ◌∙◌, subst, arith}
 use Rattle.std.proofs.lemmas.List.{map-append}
-use Rattle.css_semantics.specs.Pending.{Object}
 use Rattle.css_semantics.specs.Clear.{AreApart}
 use Rattle.css_record.specs.declared.window.Window as coded
 use Rattle.css_record.specs.declared.version.VersionName.TheVariants as names
 use Rattle.css_record.specs.Windows.{window}
 use Rattle.css_objects.specs.declared.version.Held.{Held}
 use Rattle.css_objects.specs.declared.version.Held.TheVariants as held
-use Rattle.css_objects.specs.Found.{Each, AreRows}
+use Rattle.css_arguments.specs.Lists.{Each}
+use Rattle.css_objects.specs.Found.{AreRows}
 use Rattle.css_objects.specs.Table.{Entry, entries, windows, maker, is_written, object, IsBlock, IsTable}
 use Rattle.css_objects.specs.Versions.{versions, made_in, kept_first, left_by, kept_in, left_in}
 

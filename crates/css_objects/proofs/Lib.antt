@@ -1,6 +1,4 @@
-pub mod EnoughRows
 pub mod Searches
-pub mod Lists
 pub mod OneRowSearches
 pub mod Tables
 pub mod Probes
@@ -9,9 +7,6 @@ pub mod Inserts
 pub mod Keeping
 pub mod Taking
 pub mod Stores
-pub mod Measures
-pub mod Looking
-pub mod Live
 pub mod Snapshots
 pub mod Judges
 pub mod Kept
@@ -21,3 +16,8 @@ pub mod Names
 pub mod Holding
 pub mod Giving
 pub mod Joins
+pub mod Orders
+pub mod Currents
+pub mod Followed
+pub mod Generations
+pub mod Spaced

@@ -1,13 +1,12 @@
 -- The table with a version that a task makes.
-use Rattle.std.proofs.Common.{◌≡◌, ◌≢◌, ℕ, zero, suc, ◌+◌, ◌-◌, ◌<◌, ◌≤◌, Bool, true, false, not, List, [], ◌∷◌, ◌++◌, length, map, filter, take, drop, get_or, slice_get, slice_set, slice_index, is_some, Option, Some, None, Result, Ok, Err, OnOk, OnErr, ◌⊎◌, inl, inr, refl, sym, ap, ◌∙◌, subst, All, arith, eqb, if◌then◌else◌}
+use Rattle.std.proofs.Common.{◌≡◌, ◌≢◌, ℕ, zero, suc, ◌+◌, ◌<◌, ◌≤◌, Bool, true, false, List, [], ◌∷◌, ◌++◌, length, map, filter, take, drop, get_or, slice_get, slice_set, is_some, Some, refl, sym, ap, ◌∙◌, subst, All, arith, if◌then◌else◌}
 use Rattle.std.specs.List.{list_any, insert}
 use Rattle.std.specs.List.Sorted.{IsPermutation}
 use Rattle.std.proofs.Math.Seq.{map-set_same}
-use Rattle.std.proofs.lemmas.List.{length-map, map-append, map-set, set-append_left, set-append_right}
+use Rattle.std.proofs.lemmas.List.{length-map, map-append, map-set, set-append_left}
 use Rattle.std.proofs.lemmas.List.Sorted.{IsPermutation-refl}
 use Rattle.std.proofs.lemmas.Option.{slice_get_within, get_or_from_slice_get}
-use Rattle.std.proofs.lemmas.Bool.{cases_order, false≢true, false_from_ne_true, eq-eqb}
-use Rattle.css_semantics.specs.Tasks as tasks
+use Rattle.std.proofs.lemmas.Bool.{false_from_ne_true}
 use Rattle.css_semantics.specs.Tasks.{is_same_window}
 use Rattle.css_semantics.specs.Pending.{Object}
 use Rattle.css_semantics.specs.Rules.{share_byte, overlap}
@@ -17,20 +16,21 @@ use Rattle.css_record.specs.Windows.{window, IsWindow}
 use Rattle.css_objects.specs.declared.ordered.Found.{Found}
 use Rattle.css_objects.specs.declared.version.Held.{Held}
 use Rattle.css_objects.specs.declared.version.Held.TheVariants as held
-use Rattle.css_objects.specs.Ordered.{bases, IsAscending, IsGap, IsOfBase, HasNone}
-use Rattle.css_objects.specs.Found.{Each, IsRow, AreRows}
-use Rattle.css_objects.specs.Table.{Entry, windows, maker, is_written, is_other, object, IsBlock, IsTable, IsInserted}
+use Rattle.css_objects.specs.Ordered.{IsAscending, IsGap, IsOfBase, HasNone}
+use Rattle.css_arguments.specs.Lists.{Each}
+use Rattle.css_objects.specs.Found.{IsRow, AreRows}
+use Rattle.css_objects.specs.Table.{Entry, windows, maker, is_written, object, IsBlock, IsTable, IsInserted}
 use Rattle.css_objects.specs.Versions.{versions}
 use Rattle.css_objects.specs.Naming.{with_version}
 use Rattle.css_objects.proofs.Searches.{base_at}
-use Rattle.css_objects.proofs.Looking.{within}
+use Rattle.css_arguments.proofs.Looking.{within}
 use Rattle.std.proofs.lemmas.List.Elements.{All-head, All-tail, All-nil, All-cons}
-use Rattle.css_objects.proofs.Lists.{any_none, any_one, map_place, place_map, place_left, place_right}
-use Rattle.css_objects.proofs.Keeping.{filter-append, place_in_filter, rows_of, windows_apart, written_each, written_apart, not_there}
-use Rattle.css_objects.proofs.Probes.{place_split, same_window, same_base_shares, entry_window, one_entry}
+use Rattle.css_arguments.proofs.Lists.{map_place, place_map, place_left, place_right}
+use Rattle.css_objects.proofs.Keeping.{filter-append, place_in_filter, rows_of, written_each, written_apart}
+use Rattle.css_objects.proofs.Probes.{same_window, same_base_shares, entry_window, one_entry}
 use Rattle.css_objects.proofs.Snapshots.{same_refl}
-use Rattle.css_objects.proofs.Kept.{has_maker, same_parts, same_written}
-use Rattle.css_objects.proofs.Adding.{with_gap, filter-insert_false, either, on_ok, of_base, found_same, each_insert, apart_row, table-with_block, rows_with, row_added}
+use Rattle.css_objects.proofs.Kept.{has_maker, same_written}
+use Rattle.css_objects.proofs.Adding.{with_gap, of_base, found_same, apart_row, rows_with}
 
 -- ---- lists with another element at a place
 

@@ -1,55 +1,13 @@
 -- Names of versions that are read.
-use Rattle.std.proofs.Common.{◌≡◌, ℕ, zero, suc, ◌+◌, ◌-◌, ◌<◌, ◌≤◌, Bool, true, false, ◌||◌, List, [], ◌∷◌, ◌++◌, length, map, take, drop, slice_get, slice_index, get_or, Option, Some, None, Result, MatchResult, refl, sym, ap, ◌∙◌, subst, inl, inr, arith, eqb, nat_cmp}
+use Rattle.std.proofs.Common.{◌≡◌, ℕ, zero, suc, ◌<◌, ◌≤◌, Bool, true, false, ◌||◌, List, [], ◌∷◌, ◌++◌, length, get_or, Some, None, refl, sym, ap, ◌∙◌, inl, inr, arith, eqb}
 use Rattle.std.specs.List.{list_any, insert}
 use Rattle.std.proofs.lemmas.Bool.{cases_order}
 use Rattle.std.proofs.lemmas.List.Folds.{list_any-append}
 use Rattle.std.proofs.lemmas.List.Sorted.{list_any-IsPermutation, IsPermutation-insert}
-use Rattle.css_semantics.specs.Tasks as tasks
-use Rattle.css_record.specs.declared.window.Window as coded
-use Rattle.css_record.specs.Windows.{window, IsWindow}
-use Rattle.css_objects.specs.declared.argument.Argument as code
 use Rattle.css_objects.specs.declared.version.Held.{Held}
-use Rattle.css_objects.specs.Arguments.{given}
-use Rattle.css_objects.specs.Found.{Each}
 use Rattle.css_objects.specs.Table.{maker}
-use Rattle.css_objects.specs.Naming.{AreWindows, AreMakers, Rises, IsTaskAdded, is_made_by}
-use Rattle.css_objects.proofs.Looking.{take_at}
+use Rattle.css_objects.specs.Naming.{AreMakers, Rises, IsTaskAdded, is_made_by}
 use Rattle.css_objects.proofs.Inserts.{rises_with}
-
--- ---- windows of arguments, one after another
-
-pub record WindowsTo (arguments : List code.Argument) (place : ℕ) (windows : List coded.Window) : Type 0 where
-  pub same : map window windows ≡ take place (map tasks.window (map given arguments))
-  pub are : Each windows (λ w. IsWindow (window w))
-
-place_last : {X : Type 0} (P : X → Type 0) (xs : List X) (x : X) → ((i : ℕ) (y : X) → slice_get xs i ≡ Some y → P y) → P x → (i : ℕ) (y : X) → slice_get (xs ++ x ∷ []) i ≡ Some y → P y
-place_last P [] x all one zero y at = let same : x ≡ y = cc in subst P same one
-place_last P [] x all one (suc i) y at = absurd (cc)
-place_last P (z ∷ xs) x all one zero y at = all 0 y at
-place_last P (z ∷ xs) x all one (suc i) y at = place_last P xs x (λ j u of_u. all (suc j) u of_u) one i y at
-
-pub windows_begin : (arguments : List code.Argument) → WindowsTo arguments 0 []
-windows_begin arguments = record { same = refl; are = λ i w at. absurd (cc) }
-
-map-last : {X Y : Type 0} (f : X → Y) (xs : List X) (x : X) → map f (xs ++ x ∷ []) ≡ map f xs ++ f x ∷ []
-map-last f [] x = refl
-map-last f (y ∷ xs) x = ap (λ ys. f y ∷ ys) (map-last f xs x)
-
-pub windows_next : (arguments : List code.Argument) (place : ℕ) (windows : List coded.Window) (w : coded.Window) → WindowsTo arguments place windows
-    → slice_get (map tasks.window (map given arguments)) place ≡ Some (window w) → IsWindow (window w) → WindowsTo arguments (place + 1) (windows ++ w ∷ [])
-windows_next arguments place windows w before at is_window = record {
-  same = map-last window windows w ∙ ap (λ ws. ws ++ window w ∷ []) before.same ∙ sym (take_at (map tasks.window (map given arguments)) place (window w) at);
-  are = place_last (λ (v : coded.Window). IsWindow (window v)) windows w before.are is_window;
-}
-
-take_over : {X : Type 0} (xs : List X) (i : ℕ) → length xs ≤ i → take i xs ≡ xs
-take_over [] zero over = refl
-take_over [] (suc i) over = refl
-take_over (x ∷ xs) zero over = absurd (omega arith)
-take_over (x ∷ xs) (suc i) over = ap (λ ys. x ∷ ys) (take_over xs i (omega arith))
-
-pub windows_end : (arguments : List code.Argument) (place : ℕ) (windows : List coded.Window) → WindowsTo arguments place windows → length (map tasks.window (map given arguments)) ≤ place → AreWindows arguments windows
-windows_end arguments place windows all over = record { same = all.same ∙ take_over (map tasks.window (map given arguments)) place over; are = all.are }
 
 -- ---- tasks that made versions
 

@@ -12,7 +12,8 @@ use Rattle.css_record.specs.Windows.{window, IsWindow}
 use Rattle.css_objects.specs.declared.ordered.Found.{Found}
 use Rattle.css_semantics.specs.WindowRanges.{window_meets}
 use Rattle.css_objects.specs.Ordered.{IsAscending, StandAbove, Stands, IsLastBelow, IsSearch}
-use Rattle.css_objects.specs.Found.{Each, AreRows, NoneMeets, IsLastMeeting, NoneShares, IsLastSharing, TakesAtMost}
+use Rattle.css_arguments.specs.Lists.{Each}
+use Rattle.css_objects.specs.Found.{AreRows, NoneMeets, IsLastMeeting, NoneShares, IsLastSharing, TakesAtMost}
 use Rattle.css_semantics.proofs.WindowRanges.{rows_give, rows_by, none_below, share_is_rows, share_gives, share_by}
 use Rattle.css_objects.proofs.Searches.{base_at}
 

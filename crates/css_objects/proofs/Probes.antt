@@ -14,12 +14,13 @@ use Rattle.css_objects.specs.declared.pending.Probe.{Probe}
 use Rattle.css_objects.specs.declared.pending.Pending.{Pending}
 use Rattle.css_objects.specs.declared.pending.Probe.TheVariants as probes
 use Rattle.css_objects.specs.Ordered.{HasNone}
-use Rattle.css_objects.specs.Found.{Each, NoneShares, IsLastSharing}
+use Rattle.css_arguments.specs.Lists.{Each}
+use Rattle.css_objects.specs.Found.{NoneShares, IsLastSharing}
 use Rattle.css_objects.specs.Table.{Entry, Table, windows, object, IsTable}
 use Rattle.css_objects.specs.Seen.{ShowsAt, IsProbe, IsSeen}
 use Rattle.css_semantics.proofs.WindowRanges.{share-sym, share_is_rows, share_by, rows_by}
 use Rattle.css_objects.proofs.Searches.{base_at}
-use Rattle.css_objects.proofs.Lists.{any_none, at_place, map_place, place_map, place_left, place_right}
+use Rattle.css_arguments.proofs.Lists.{any_none, at_place, map_place, place_map, place_left, place_right}
 
 -- ---- places
 

@@ -1,5 +1,5 @@
 -- Windows that are equal to an object's, and windows that overlap one.
-use Rattle.std.proofs.Common.{◌≡◌, ◌≢◌, ℕ, Bool, true, false, not, ◌&&◌, List, ◌++◌, ◌+◌, length, map, slice_get, Option, Some, refl, sym, ap, ◌∙◌, subst, eqb, ◌≤◌, ◌*◌, arith}
+use Rattle.std.proofs.Common.{◌≡◌, ◌≢◌, ℕ, Bool, true, false, not, ◌&&◌, List, ◌++◌, ◌+◌, length, map, slice_get, Some, refl, sym, ap, ◌∙◌, subst, eqb, ◌≤◌, arith}
 use Rattle.std.specs.List.{list_any}
 use Rattle.std.proofs.lemmas.Bool.{false≢true, and_parts, and_from, eqb-true, eq-eqb, false_from_ne_true}
 use Rattle.css_semantics.specs.Tasks.{is_same_window}
@@ -13,10 +13,10 @@ use Rattle.css_objects.specs.Found.{TakesAtMost}
 use Rattle.std.proofs.lemmas.Nat.{mul-le}
 use Rattle.css_objects.specs.declared.pending.Probe.{Probe}
 use Rattle.css_objects.specs.declared.pending.Probe.TheVariants as probes
-use Rattle.css_objects.specs.Table.{Entry, Table, windows, object, objects, IsTable}
-use Rattle.css_objects.specs.Seen.{IsShown, Crosses, IsProbe, crosses}
+use Rattle.css_objects.specs.Table.{Entry, Table, windows, object, IsTable}
+use Rattle.css_objects.specs.Seen.{IsProbe, crosses}
 use Rattle.css_semantics.proofs.WindowRanges.{share-sym}
-use Rattle.css_objects.proofs.Lists.{any_none, any_one, map_place, place_map, place_left, place_right}
+use Rattle.css_arguments.proofs.Lists.{any_none, any_one, map_place, place_map, place_left, place_right}
 use Rattle.css_objects.proofs.Probes.{same_base_shares, entry_window, one_entry, none_equal}
 use Rattle.css_objects.proofs.Stores.{none_any}
 

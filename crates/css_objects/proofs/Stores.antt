@@ -13,15 +13,16 @@ use Rattle.css_record.specs.Windows.{window}
 use Rattle.css_objects.specs.declared.ordered.Found.{Found}
 use Rattle.css_semantics.specs.WindowRanges.{window_meets}
 use Rattle.css_objects.specs.Ordered.{IsAscending, Stands}
-use Rattle.css_objects.specs.Found.{Each, AreRows, NoneMeets, IsLastMeeting, IsGreatestMeeting}
-use Rattle.css_objects.specs.Table.{Entry, Table, windows, is_written, object, objects, IsTable}
+use Rattle.css_arguments.specs.Lists.{Each}
+use Rattle.css_objects.specs.Found.{AreRows, NoneMeets, IsLastMeeting, IsGreatestMeeting}
+use Rattle.css_objects.specs.Table.{Entry, Table, all_entries, windows, is_written, object, objects, IsTable}
 use Rattle.css_objects.specs.declared.search.Place.TheVariants as places
-use Rattle.css_objects.specs.Stored.{IsUntouched, IsTaken, IsLater}
+use Rattle.css_objects.specs.Stored.{without_read, IsUntouched, IsTaken, IsLater}
 use Rattle.css_objects.proofs.Tables.{none_of_nothing}
 use Rattle.css_semantics.proofs.WindowRanges.{some_is_range}
 use Rattle.css_objects.proofs.Searches.{base_at}
 use Rattle.css_objects.proofs.OneRowSearches.{row_gives, same_place}
-use Rattle.css_objects.proofs.Lists.{any_none, any_one, map_place, place_map, place_left, place_right}
+use Rattle.css_arguments.proofs.Lists.{any_none, any_one, map_place, place_map, place_left, place_right}
 use Rattle.css_objects.proofs.Edits.{map-remove}
 use Rattle.css_objects.proofs.Keeping.{filter-all}
 use Rattle.css_objects.proofs.Probes.{place_split, entry_window}
@@ -260,3 +261,27 @@ taken_left old address count new w is =
     ∙ ap (filter p) (map-remove object (old.rows ++ old.blocks) is.place)
     ∙ filter-remove p (map object (old.rows ++ old.blocks)) is.place (object is.entry) (place_map object (old.rows ++ old.blocks) is.place is.entry is.at)
     (ap (λ b. b || not (some_from (has_byte (window is.entry.window)) address count)) is.read ∙ ap not met)
+
+-- the same of the table's entries
+pub taken_rest : (old : Table) (address count : ℕ) (new : Table) (w : coded.Window) → IsTaken old address count new w
+    → without_read (all_entries new) address count ≡ without_read (all_entries old) address count
+taken_rest old address count new w is =
+    let p : Entry → Bool = λ e. is_written e || not (some_from (has_byte (window e.window)) address count) in
+    let met : some_from (has_byte (window is.entry.window)) address count ≡ true =
+    subst (λ (x : coded.Window). some_from (has_byte (window x)) address count ≡ true) (sym is.is) is.meets in
+    ap (filter p) is.rest
+    ∙ filter-remove p (old.rows ++ old.blocks) is.place is.entry is.at
+    (ap (λ b. b || not (some_from (has_byte (window is.entry.window)) address count)) is.read ∙ ap not met)
+
+pub untouched_rest : (old : Table) (address count : ℕ) (new : Table) → IsUntouched old address count new → all_entries new ≡ without_read (all_entries old) address count
+untouched_rest old address count new is =
+    ap all_entries is.stays
+    ∙ sym
+    (filter-all (λ e. is_written e || not (some_from (has_byte (window e.window)) address count)) (all_entries old)
+    (λ i e at. by (is_written e) (some_from (has_byte (window e.window)) address count)
+    (none_any (λ o. true && some_from (has_byte o.window) address count) (objects old) i (object e) is.none (place_map object (all_entries old) i e at))))
+  where
+    by : (b c : Bool) → (true && c) ≡ false → (b || not c) ≡ true
+    by true c none = refl
+    by false true none = absurd (cc)
+    by false false none = refl

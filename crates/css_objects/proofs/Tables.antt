@@ -18,11 +18,12 @@ use Rattle.css_objects.specs.declared.ordered.Found.{Found}
 use Rattle.css_objects.specs.declared.version.Held.{Held}
 use Rattle.css_semantics.specs.WindowRanges.{window_meets}
 use Rattle.css_objects.specs.Ordered.{IsSearch}
-use Rattle.css_objects.specs.Found.{Each, NoneMeets, IsLastMeeting, NoneShares, IsLastSharing, TakesAtMost}
+use Rattle.css_arguments.specs.Lists.{Each}
+use Rattle.css_objects.specs.Found.{NoneMeets, IsLastMeeting, NoneShares, IsLastSharing, TakesAtMost}
 use Rattle.css_objects.specs.Table.{Entry, Table, entries, windows, maker, is_written, object, objects, IsTable}
 use Rattle.css_semantics.proofs.WindowRanges.{some_is_range}
 use Rattle.css_objects.proofs.OneRowSearches.{search_takes}
-use Rattle.css_objects.proofs.Lists.{any_none, any_one, any_same, any_map, any_filter, place_map}
+use Rattle.css_arguments.proofs.Lists.{any_none, any_one, any_same, any_map, any_filter, place_map}
 
 -- ---- windows and versions side by side
 

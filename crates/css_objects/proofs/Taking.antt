@@ -8,9 +8,10 @@ use Rattle.css_semantics.specs.Rules.{share_byte}
 use Rattle.css_semantics.specs.Clear.{AreApart}
 use Rattle.css_record.specs.declared.window.Window as coded
 use Rattle.css_objects.specs.Ordered.{IsAscending}
-use Rattle.css_objects.specs.Found.{Each, IsRow}
+use Rattle.css_arguments.specs.Lists.{Each}
+use Rattle.css_objects.specs.Found.{IsRow}
 use Rattle.css_objects.specs.Table.{Entry, windows, is_written, object, IsBlock, IsTable}
-use Rattle.css_objects.proofs.Lists.{map_place, place_map}
+use Rattle.css_arguments.proofs.Lists.{map_place, place_map}
 use Rattle.css_objects.proofs.Edits.{map-remove}
 use Rattle.css_objects.proofs.Keeping.{rows_of, windows_apart}
 

@@ -3,13 +3,10 @@ use Rattle.std.specs.Prelude.{◌≡◌, ◌+◌, ◌*◌, ◌^◌, ◌≤◌, �
 use Rattle.css_semantics.specs.Rules.{share_byte}
 use Rattle.css_record.specs.declared.window.Window.{Window}
 use Rattle.css_record.specs.Windows.{window, IsWindow}
+use Rattle.css_arguments.specs.Lists.{Each}
 use Rattle.css_objects.specs.declared.ordered.Found.{Found}
 use Rattle.css_objects.specs.Ordered.{Stands}
 use Rattle.css_semantics.specs.WindowRanges.{window_meets}
-
--- all windows of a list have a property
-abbrev pub Each : List Window → (Window → Type 0) → Type 0
-Each windows P = (i : ℕ) (w : Window) → slice_get windows i ≡ Some w → P w
 
 -- a window of one row
 pub record IsRow (w : Window) : Type 0 where

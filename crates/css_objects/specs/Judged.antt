@@ -1,36 +1,16 @@
 -- The rules on what a call is given.
-use Rattle.std.specs.Prelude.{◌≤◌, ◌<◌, ◌+◌, ◌*◌, ◌^◌, ℕ, Bool, not, ◌||◌, List, [], ◌∷◌, length, map, take, nat_lt, Option, Some, None, Result, Ok, Err, if◌then◌else◌}
+use Rattle.std.specs.Prelude.{◌≤◌, ◌<◌, ◌+◌, ◌*◌, ◌^◌, ℕ, not, List, [], ◌∷◌, length, map, nat_lt, Option, Some, None, Result, Ok, Err}
 use Rattle.std.specs.List.{list_any}
 use Rattle.css_base.specs.declared.rule.Rule.{Rule}
 use Rattle.css_base.specs.declared.rule.Rule.TheVariants as rules
-use Rattle.css_semantics.specs.Memory.{Memory, first_global, globals_end, heap_start, heap_top, stack_place, is_between, rounded_up}
-use Rattle.css_semantics.specs.Tasks.{Window, window, is_same_window, window_length}
+use Rattle.css_semantics.specs.Tasks.{Window, window}
 use Rattle.css_semantics.specs.Pending.{Object}
 use Rattle.css_semantics.specs.Rules.{Check, check, first_broken, room_of, all_of_window, overlaps_partly, has_alias}
 use Rattle.css_record.specs.declared.layout.Layout.{Layout}
-use Rattle.css_objects.specs.declared.argument.Argument.{Argument}
-use Rattle.css_objects.specs.Arguments.{given, is_unfit}
+use Rattle.css_arguments.specs.declared.argument.Argument.{Argument}
+use Rattle.css_arguments.specs.Arguments.{given, is_unfit}
+use Rattle.css_arguments.specs.Layouts.{is_live_at}
 use Rattle.css_objects.specs.Table.{Table, objects}
-
--- ---- live bytes
-
--- the layout of a memory
-abbrev pub layout_of : Memory → Layout
-layout_of m = record { globals_end = globals_end m; heap_start = heap_start m; heap_top = heap_top m; stack_place = stack_place m; end = m.end }
-
--- the byte at an address is a global's, the heap's or the stack's
-abbrev pub is_live_at : Layout → ℕ → Bool
-is_live_at l address =
-    is_between first_global l.globals_end address
-    || (is_between l.heap_start l.heap_top address || is_between l.stack_place l.end address)
-
--- the parts of a layout stand in order
-pub record IsLayout (l : Layout) : Type 0 where
-  pub globals : first_global ≤ l.globals_end
-  pub heap : l.globals_end ≤ l.heap_start
-  pub top : l.heap_start ≤ l.heap_top
-  pub stack : l.heap_top ≤ l.stack_place
-  pub end : l.stack_place ≤ l.end
 
 -- ---- the rules
 
@@ -53,10 +33,6 @@ broken_by l local_store t arguments = first_broken (checks_of_call l local_store
 abbrev pub judgement : Option Rule → Result (Unit {0}) Rule
 judgement None = Ok tt
 judgement (Some rule) = Err rule
-
--- the bytes of a local store that a window takes which stands at a place of some, if it isn't one of those before
-abbrev pub bytes_of : (place : ℕ) → List Window → Window → ℕ
-bytes_of place windows w = if list_any (λ v. is_same_window v w) (take place windows) then 0 else rounded_up 128 (window_length w)
 
 -- ---- steps
 

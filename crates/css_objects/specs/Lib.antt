@@ -3,7 +3,8 @@ pub mod Found
 pub mod Table
 pub mod Seen
 pub mod Stored
-pub mod Arguments
 pub mod Judged
 pub mod Versions
 pub mod Naming
+pub mod Current
+pub mod Spaced

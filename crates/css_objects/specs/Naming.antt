@@ -2,18 +2,16 @@
 use Rattle.std.specs.Prelude.{◌≡◌, ◌<◌, ◌+◌, ℕ, Bool, false, ◌&&◌, ◌||◌, ◌==◌, List, [], ◌∷◌, ◌++◌, length, map, find, Option, Some, None, option_map, slice_index, if◌then◌else◌}
 use Rattle.std.specs.List.{list_any}
 use Rattle.css_base.specs.declared.direction.Direction.{Direction}
-use Rattle.css_objects.specs.declared.argument.Argument.{Argument}
+use Rattle.css_arguments.specs.declared.argument.Argument.{Argument}
 use Rattle.css_semantics.specs.Dialogue as dialogue
-use Rattle.css_semantics.specs.Tasks as tasks
 use Rattle.css_semantics.specs.Tasks.{is_same_window, reads, writes}
 use Rattle.css_semantics.specs.Pending.{Object, is_named_by}
 use Rattle.css_semantics.specs.Rules.{overlap}
-use Rattle.css_objects.specs.Arguments.{given}
-use Rattle.css_objects.specs.Found.{Each}
+use Rattle.css_arguments.specs.Lists.{Each}
 use Rattle.css_record.specs.declared.version.VersionName.{VersionName}
 use Rattle.css_record.specs.declared.version.VersionName.TheVariants as names
 use Rattle.css_record.specs.declared.window.Window.{Window}
-use Rattle.css_record.specs.Windows.{window, IsWindow}
+use Rattle.css_record.specs.Windows.{window}
 use Rattle.css_objects.specs.declared.version.Held.{Held}
 use Rattle.css_objects.specs.declared.version.Held.TheVariants as held
 use Rattle.css_objects.specs.Table.{Entry, maker}
@@ -89,11 +87,6 @@ pub record AreMakers (versions : List Held) (tasks : List ℕ) : Type 0 where
   pub all : (task : ℕ) → list_any (λ t. t == task) tasks ≡ list_any (λ v. is_made_by task (maker v)) versions
 
 -- ---- windows
-
--- these are the arguments' windows
-pub record AreWindows (arguments : List Argument) (windows : List Window) : Type 0 where
-  pub same : map window windows ≡ map tasks.window (map given arguments)
-  pub are : Each windows (λ w. IsWindow (window w))
 
 -- none of the windows overlaps an object, or another one, without being equal to it
 pub record AreClear (windows : List Window) (objects : List Object) : Type 0 where

@@ -1,5 +1,5 @@
 -- What main's stores take out of the table.
-use Rattle.std.specs.Prelude.{◌≡◌, ◌≤◌, ℕ, true, false, slice_get, Option, Some, IfSome}
+use Rattle.std.specs.Prelude.{◌≡◌, ◌≤◌, ℕ, true, false, not, ◌||◌, List, filter, slice_get, Option, Some, IfSome}
 use Rattle.std.specs.List.{remove}
 use Rattle.css_semantics.specs.Tasks.{has_byte}
 use Rattle.css_semantics.specs.Pending.{some_from, without_stored}
@@ -10,6 +10,10 @@ use Rattle.css_objects.specs.declared.ordered.Found.{Found}
 use Rattle.css_objects.specs.declared.search.Place.{Place}
 use Rattle.css_objects.specs.declared.search.Place.TheVariants as places
 use Rattle.css_objects.specs.Table.{Entry, Table, all_entries, objects, is_written}
+
+-- without the objects that are only read and have one of so many bytes from an address
+abbrev pub without_read : List Entry → (address count : ℕ) → List Entry
+without_read es address count = filter (λ e. is_written e || not (some_from (has_byte (window e.window)) address count)) es
 
 -- no object has one of so many bytes from an address, and the table stays
 pub record IsUntouched (old : Table) (address count : ℕ) (new : Table) : Type 0 where

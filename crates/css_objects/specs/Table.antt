@@ -8,7 +8,8 @@ use Rattle.css_objects.specs.declared.version.Held.{Held}
 use Rattle.css_objects.specs.declared.version.Held.TheVariants as held
 use Rattle.std.specs.List.{insert}
 use Rattle.css_objects.specs.Ordered.{IsGap, IsAscending}
-use Rattle.css_objects.specs.Found.{Each, AreRows}
+use Rattle.css_arguments.specs.Lists.{Each}
+use Rattle.css_objects.specs.Found.{AreRows}
 
 -- an object: its window, and its current version
 pub record Entry : Type 0 where

@@ -1,8 +1,6 @@
 //! The table of pending objects: which windows tasks may still read or write, with the current version of each.
 #![tactic(auto)]
 
-mod argument;
-mod judging;
 mod laws;
 mod naming;
 mod ordered;
@@ -12,11 +10,10 @@ mod search;
 mod steps;
 mod table;
 mod version;
-mod window;
 
-pub use argument::{Argument, Dims};
 pub use laws::{
-    accesses_are_judged_by_tables, calls_are_judged_by_tables, layouts_are_of_memories,
+    accesses_are_judged_by_tables, calls_are_judged_by_tables, probes_read_ten_of_a_thousand,
+    tables_follow_tapes, tables_have_the_pending_objects,
 };
 pub use naming::Named;
 pub use ordered::{Found, Ordered};

@@ -1,11 +1,9 @@
 //! What the versions that a call reads are named.
 ghost use Rattle.std.specs.Vec.Iter.{into_iter_items};
 ghost use Rattle.std.specs.Prelude.{ℕ, List, Option, ◌≡◌, ◌<◌, ◌≤◌, ◌^◌, ◌++◌, [], ◌∷◌, length, IfOk, OnOk};
-ghost use Rattle.css_objects.specs.Arguments.{AreFit};
-ghost use Rattle.css_objects.specs.Naming.{AreWindows, AreMakers, Rises, IsTaskAdded, bytes_in, names_in};
+ghost use Rattle.css_arguments.specs.Arguments.{AreFit, AreWindows};
+ghost use Rattle.css_objects.specs.Naming.{AreMakers, Rises, IsTaskAdded, bytes_in, names_in};
 
-use crate::argument::Argument;
-use crate::judging::window_at;
 use crate::version::Held;
 use css_base::{Buffer, NoMemory};
 use css_record::{VersionName, Window};
@@ -25,18 +23,6 @@ pub struct Named {
     pub renamed: Vec<bool>,
     /// The tasks that made what it reads, in rising order.
     pub producers: Vec<u64>,
-}
-
-/// The windows of arguments.
-pub(crate) fn windows_of(alloc: Global, arguments: &[Argument]) -> Result<Vec<Window>, NoMemory>
-    requires { AreFit arguments.now }
-    ensures { IfOk result (λ windows. AreWindows arguments.now windows.items) }
-{
-    let mut windows = Vec::new(alloc);
-    for place in 0..arguments.len() {
-        windows.push(window_at(arguments, place))?;
-    }
-    Ok(windows)
 }
 
 /// The names of versions: one whose bytes are there is named by its place among those.

@@ -9,8 +9,8 @@ use css_base::NoMemory;
 use css_record::Window;
 use indexmap::IndexMap;
 use std::alloc::Global;
-use std::marker::{Brand, Model};
-use std::sync::ledger::{Blank, Ledger};
+use std::marker::Model;
+use std::sync::ledger::Ledger;
 
 /// A window that was found among others, with its place.
 #[derive(Clone, Copy)]
@@ -67,26 +67,6 @@ impl Ordered {
         &self.windows[place]
     }
 
-    /// The window at a place, where no steps are counted.
-    pub(crate) fn window(&self, place: usize) -> Window
-        requires { place < length self.now }
-        ensures { slice_get self.now place ≡ Some result }
-    {
-        self.at_from::<Brand>(place, Blank::new(1))
-    }
-
-    // The same, with a ledger for its step.
-    fn at_from<L: Ledger>(&self, place: usize, blank: Blank) -> Window
-        requires place { place < length self.now }
-        requires name { blank.name ≡ L.name }
-        requires parts { blank.parts ≡ L.parts }
-        requires some { 0 < L.parts }
-        ensures { slice_get self.now place ≡ Some result }
-    {
-        let mut steps = Steps::<L>::new(blank);
-        *self.at(place, &mut steps)
-    }
-
     /// The last window that begins below an address.
     pub fn last_below<L: Ledger>(&self, end: u64, steps: &mut Steps<L>) -> Option<Found>
         ensures found { MatchOption result (StandAbove self.now end 0) (IsLastBelow self.now end) }
@@ -118,69 +98,40 @@ impl Ordered {
     }
 
     /// Without the window of a base, if there is one.
-    pub(crate) fn drop_base(&mut self, base: u32)
+    pub(crate) fn drop_base<L: Ledger>(&mut self, base: u32, steps: &mut Steps<L>)
         ensures rest { self.new ≡ filter (is_other base) self.old }
         ensures ascends { IsAscending self.new }
     {
-        match self.found(base) {
+        match self.find(base, steps) {
             Some(f) => self.remove(f.place),
             None => {}
         }
     }
 
-    /// The window of a base, where no steps are counted.
-    pub(crate) fn found(&self, base: u32) -> Option<Found>
-        ensures found { MatchOption result (HasNone self.now base) (IsOfBase self.now base) }
-        ensures ascends { IsAscending self.now }
-    {
-        let _count = self.len();
-        self.find_from::<Brand>(base, Blank::new(1))
-    }
-
-    // The same, with a ledger for its steps.
-    fn find_from<L: Ledger>(&self, base: u32, blank: Blank) -> Option<Found>
-        requires name { blank.name ≡ L.name }
-        requires parts { blank.parts ≡ L.parts }
-        requires some { 0 < L.parts }
-        ensures { MatchOption result (HasNone self.now base) (IsOfBase self.now base) }
-    {
-        let mut steps = Steps::<L>::new(blank);
-        self.find(base, &mut steps)
-    }
-
     /// With a window more, whose base no other has. The answer is its place. `NoMemory` leaves all as it was.
-    pub(crate) fn insert(&mut self, window: Window) -> Result<usize, NoMemory>
+    pub(crate) fn insert<L: Ledger>(
+        &mut self,
+        window: Window,
+        steps: &mut Steps<L>,
+    ) -> Result<usize, NoMemory>
         requires { HasNone self.old window.base }
         ensures ok { IfOk result (λ place. IsGap self.old place window.base × (self.new ≡ insert self.old place window)) }
         ensures err { OnErr result (self.new ≡ self.old) }
         ensures ascends { IsAscending self.new }
     {
-        let place = self.gap(window.base);
+        let place = self.gap(window.base, steps);
         let _none = self.windows.shift_insert(place, window.base, window)?;
         Ok(place)
     }
 
     // Where a window of a base that no other has would stand.
-    fn gap(&self, base: u32) -> usize
+    fn gap<L: Ledger>(&self, base: u32, steps: &mut Steps<L>) -> usize
         requires { HasNone self.now base }
         ensures gap { IsGap self.now result base }
         ensures ascends { IsAscending self.now }
     {
         let _count = self.len();
-        self.gap_from::<Brand>(base, Blank::new(1))
-    }
-
-    // The same, with a ledger for its steps.
-    fn gap_from<L: Ledger>(&self, base: u32, blank: Blank) -> usize
-        requires none { HasNone self.now base }
-        requires name { blank.name ≡ L.name }
-        requires parts { blank.parts ≡ L.parts }
-        requires some { 0 < L.parts }
-        ensures { IsGap self.now result base }
-    {
-        let mut steps = Steps::<L>::new(blank);
-        let _count = self.len();
-        match self.last_below(u64::from(base), &mut steps) {
+        match self.last_below(u64::from(base), steps) {
             Some(f) => f.place + 1,
             None => 0,
         }
@@ -196,8 +147,10 @@ impl Ordered {
     /// The window of a base.
     pub fn find<L: Ledger>(&self, base: u32, steps: &mut Steps<L>) -> Option<Found>
         ensures found { MatchOption result (HasNone self.now base) (IsOfBase self.now base) }
+        ensures ascends { IsAscending self.now }
         ensures cost { IsSearch (length self.now) steps.old steps.new }
     {
+        let _count = self.len();
         let found = self.last_below(u64::from(base) + 1, steps)?;
         if found.window.base == base {
             Some(found)

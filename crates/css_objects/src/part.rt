@@ -3,7 +3,8 @@ ghost use Rattle.std.specs.Prelude.{◌≡◌, ◌+◌, ◌<◌, ◌≤◌, ◌&
 ghost use Rattle.std.specs.List.{list_any, remove};
 ghost use Rattle.css_record.specs.Windows as records;
 ghost use Rattle.css_objects.specs.Ordered.{HasNone, IsAscending, IsOfBase, IsSearch};
-ghost use Rattle.css_objects.specs.Found.{Each, AreRows, NoneMeets, IsLastMeeting, IsGreatestMeeting, NoneShares, IsLastSharing, TakesAtMost};
+ghost use Rattle.css_arguments.specs.Lists.{Each};
+ghost use Rattle.css_objects.specs.Found.{AreRows, NoneMeets, IsLastMeeting, IsGreatestMeeting, NoneShares, IsLastSharing, TakesAtMost};
 ghost use Rattle.css_semantics.specs.WindowRanges.{window_meets};
 ghost use Rattle.css_objects.specs.Table.{Entry, windows as windows_of, is_written, without, IsBlock, IsInserted};
 ghost use Rattle.css_objects.specs.Seen.{ShowsAt, IsSeen};
@@ -16,7 +17,7 @@ use crate::pending::{Pending, Probe, Version};
 use crate::search::{last_meeting, last_meeting_block, last_sharing_block, last_sharing_row};
 use crate::steps::Steps;
 use crate::version::{Held, add_made, keep_all};
-use crate::window::{meets, same};
+use css_arguments::{meets, same};
 use css_base::{Buffer, NoMemory};
 use css_record::{VersionName, Window};
 use std::alloc::Global;
@@ -60,12 +61,13 @@ impl Part {
         self.versions.len()
     }
 
-    /// The window at a place.
-    pub(crate) fn window(&self, place: usize) -> Window
+    /// The window at a place, which is one step.
+    pub(crate) fn read<L: Ledger>(&self, place: usize, steps: &mut Steps<L>) -> Window
         requires { place < length self.now }
-        ensures { slice_get (windows_of self.now) place ≡ Some result }
+        ensures value { slice_get (windows_of self.now) place ≡ Some result }
+        ensures step { steps.new ≡ steps.old + 1 }
     {
-        self.windows.window(place)
+        *self.windows.at(place, steps)
     }
 
     /// Lends the object at a place.
@@ -157,6 +159,7 @@ impl Part {
     /// The window of a base.
     pub(crate) fn find<L: Ledger>(&self, base: u32, steps: &mut Steps<L>) -> Option<Found>
         ensures found { MatchOption result (HasNone (windows_of self.now) base) (IsOfBase (windows_of self.now) base) }
+        ensures ascends { IsAscending (windows_of self.now) }
         ensures cost { IsSearch (length self.now) steps.old steps.new }
     {
         self.windows.find(base, steps)
@@ -189,33 +192,38 @@ impl Part {
     }
 
     /// Without the object of a base, if there is one.
-    pub(crate) fn drop_base(&mut self, base: u32)
+    pub(crate) fn drop_base<L: Ledger>(&mut self, base: u32, steps: &mut Steps<L>)
         ensures rest { self.new ≡ without base self.old }
         ensures ascends { IsAscending (windows_of self.new) }
     {
-        match self.found(base) {
+        match self.find(base, steps) {
             Some(f) => self.remove(f.place),
             None => {}
         }
     }
 
     /// With an object more, whose base no other has. `NoMemory` leaves all as it was.
-    pub(crate) fn insert(&mut self, window: Window, version: Held) -> Result<(), NoMemory>
+    pub(crate) fn insert<L: Ledger>(
+        &mut self,
+        window: Window,
+        version: Held,
+        steps: &mut Steps<L>,
+    ) -> Result<(), NoMemory>
         requires { HasNone (windows_of self.old) window.base }
         ensures ok { OnOk result (IsInserted self.old window version self.new) }
         ensures err { OnErr result (self.new ≡ self.old) }
     {
         self.versions.reserve(1)?;
-        let place = self.windows.insert(window)?;
+        let place = self.windows.insert(window, steps)?;
         self.versions.insert(place, version)?;
         Ok(())
     }
 
     /// Lends the version of the object of a window.
-    pub(crate) fn held(&self, window: &Window) -> Option<&Held>
+    pub(crate) fn held<L: Ledger>(&self, window: &Window, steps: &mut Steps<L>) -> Option<&Held>
         ensures { MatchOption result (version_of self.now window.now ≡ None) (λ v. version_of self.now window.now ≡ Some v.now) }
     {
-        let found = self.found(window.base)?;
+        let found = self.find(window.base, steps)?;
         if same(&found.window, window) {
             Some(&self.versions[found.place])
         } else {
@@ -248,29 +256,12 @@ impl Part {
         keep_all(&mut self.versions, kept);
     }
 
-    /// The window of a base, where no steps are counted.
-    pub(crate) fn found(&self, base: u32) -> Option<Found>
-        ensures found { MatchOption result (HasNone (windows_of self.now) base) (IsOfBase (windows_of self.now) base) }
-        ensures ascends { IsAscending (windows_of self.now) }
-    {
-        self.windows.found(base)
-    }
-
     /// Without any object.
     pub(crate) fn clear(&mut self)
         ensures { self.new ≡ [] }
     {
         self.windows.clear();
         self.versions.clear();
-    }
-
-    // The window at a place, which is one step.
-    fn read<L: Ledger>(&self, place: usize, steps: &mut Steps<L>) -> Window
-        requires { place < length self.now }
-        ensures value { slice_get (windows_of self.now) place ≡ Some result }
-        ensures step { steps.new ≡ steps.old + 1 }
-    {
-        *self.windows.at(place, steps)
     }
 
     // Whether the object at a place is one that a task may write, and has a byte from one address up to another.

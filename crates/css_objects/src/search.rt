@@ -5,11 +5,12 @@ ghost use Rattle.css_record.specs.Windows as windows;
 ghost use Rattle.css_semantics.specs.WindowRanges.{window_meets};
 ghost use Rattle.css_objects.specs.Ordered.{IsSearch};
 ghost use Rattle.css_objects.specs.Stored.{IsLater};
-ghost use Rattle.css_objects.specs.Found.{Each, AreRows, NoneMeets, IsLastMeeting, IsGreatestMeeting, NoneShares, IsLastSharing, TakesAtMost};
+ghost use Rattle.css_arguments.specs.Lists.{Each};
+ghost use Rattle.css_objects.specs.Found.{AreRows, NoneMeets, IsLastMeeting, IsGreatestMeeting, NoneShares, IsLastSharing, TakesAtMost};
 
 use crate::ordered::{Found, Ordered};
 use crate::steps::Steps;
-use crate::window::{meets, row_base, row_end, shares};
+use css_arguments::{meets, row_base, row_end, shares};
 use css_record::Window;
 use std::sync::ledger::Ledger;
 

@@ -5,35 +5,36 @@ ghost use Rattle.css_semantics.specs.Tasks.{is_same_window, writes};
 ghost use Rattle.css_semantics.specs.Pending.{without_stored};
 ghost use Rattle.std.specs.List.{list_any};
 ghost use Rattle.css_semantics.specs.Rules.{share_byte, meets, overlap, overlaps_partly};
-ghost use Rattle.css_objects.specs.Arguments.{given, HaveElements, AreFit};
-ghost use Rattle.css_objects.specs.Judged.{IsLayout, judgement, broken_by, JudgesWithin};
+ghost use Rattle.css_arguments.specs.Arguments.{given, HaveElements, AreFit, AreWindows};
+ghost use Rattle.css_arguments.specs.Layouts.{IsLayout};
+ghost use Rattle.css_objects.specs.Judged.{judgement, broken_by, JudgesWithin};
 ghost use Rattle.css_objects.specs.Versions.{versions, made_in, kept_in};
-ghost use Rattle.css_objects.specs.Naming.{AreWindows, AreClear, AreMakers, version_of, or_snapshot, read_for, read_by, given_by, names_in, bytes_in, renames, next_out, with_version, with_read, with_one, with_given};
+ghost use Rattle.css_objects.specs.Naming.{AreClear, AreMakers, version_of, or_snapshot, read_for, read_by, given_by, names_in, bytes_in, renames, next_out, with_version, with_read, with_one, with_given};
 ghost use Rattle.css_objects.specs.Ordered.{HasNone, IsOfBase};
 ghost use Rattle.css_objects.specs.declared.version.Held.TheVariants as held;
 ghost use Rattle.css_record.specs.Windows as records;
-ghost use Rattle.css_objects.specs.Found.{Each, NoneMeets, IsLastMeeting, IsGreatestMeeting, NoneShares, IsLastSharing, TakesAtMost};
+ghost use Rattle.css_arguments.specs.Lists.{Each};
+ghost use Rattle.css_objects.specs.Found.{NoneMeets, IsLastMeeting, IsGreatestMeeting, NoneShares, IsLastSharing, TakesAtMost};
 ghost use Rattle.css_objects.specs.Table.{Entry, no_objects, all_entries, objects, windows, is_written, without};
-ghost use Rattle.css_objects.specs.Stored.{IsUntouched, IsTaken};
+ghost use Rattle.css_objects.specs.Stored.{without_read, IsUntouched, IsTaken};
 ghost use Rattle.css_objects.specs.Seen.{ShowsAt, IsShown, IsProbe, crosses};
 
-use crate::argument::Argument;
-use crate::judging::{
-    any_alias, any_dead, any_unfit, is_read, is_written, overlaps_given, room, window_at,
-};
-use crate::naming::{Named, bytes_of, makers_of, names_of, next_of, windows_of};
+use crate::naming::{Named, bytes_of, makers_of, names_of, next_of};
 use crate::ordered::{Found, Ordered};
 use crate::part::Part;
 use crate::pending::{Pending, Probe};
 use crate::search::{Place, any_meeting, later};
 use crate::steps::Steps;
 use crate::version::Held;
-use crate::window::same;
+use css_arguments::{
+    Argument, any_alias, any_dead, any_unfit, is_read, is_written, overlaps_given, room, same,
+    window_at, windows_of,
+};
 use css_base::{Buffer, Direction, NoMemory, Rule};
 use css_record::{Layout, VersionName, Window};
 use std::alloc::Global;
-use std::marker::Model;
-use std::sync::ledger::Ledger;
+use std::marker::{Brand, Model};
+use std::sync::ledger::{Blank, Ledger};
 
 /// The objects that tasks may still read or write, each with its current version. Contracts see those of one row and the others,
 /// each in order of base.
@@ -114,13 +115,24 @@ impl ObjectTable {
     pub fn object(&self, place: usize) -> Option<Pending<'_>>
         ensures { MatchOption result (length (all_entries self.now) ≤ place) (ShowsAt (all_entries self.now) place) }
     {
+        self.object_from::<Brand>(place, Blank::new(1))
+    }
+
+    // The same, with a ledger for its step.
+    fn object_from<L: Ledger>(&self, place: usize, blank: Blank) -> Option<Pending<'_>>
+        requires name { blank.name ≡ L.name }
+        requires parts { blank.parts ≡ L.parts }
+        requires some { 0 < L.parts }
+        ensures { MatchOption result (length (all_entries self.now) ≤ place) (ShowsAt (all_entries self.now) place) }
+    {
+        let mut steps = Steps::<L>::new(blank);
         let count = self.rows.len();
         if place < count {
-            let window = self.rows.window(place);
+            let window = self.rows.read(place, &mut steps);
             return Some(self.rows.pending(place, window));
         }
         if place - count < self.blocks.len() {
-            let window = self.blocks.window(place - count);
+            let window = self.blocks.read(place - count, &mut steps);
             return Some(self.blocks.pending(place - count, window));
         }
         None
@@ -166,6 +178,7 @@ impl ObjectTable {
         requires allowed { meets (λ o. o.is_written) (objects self.old) address count ≡ false }
         ensures taken { MatchOption result (IsUntouched self.old address count self.new) (IsTaken self.old address count self.new) }
         ensures left { without_stored (objects self.new) address count ≡ without_stored (objects self.old) address count }
+        ensures rest { MatchOption result (all_entries self.new ≡ without_read (all_entries self.old) address count) (λ w. without_read (all_entries self.new) address count ≡ without_read (all_entries self.old) address count) }
         ensures cost { TakesAtMost (length self.old.rows) (length self.old.blocks) 1 steps.old steps.new }
     {
         if count == 0 {
@@ -208,13 +221,40 @@ impl ObjectTable {
         ensures producers { IfOk result (λ n. AreMakers (read_by (all_entries self.old) (given_by n.windows.items arguments.now snapshots.items)) n.producers.items) }
         ensures entered { IfOk result (λ n. IsPermutation (all_entries self.new) (with_given number 0 (all_entries self.old) (given_by n.windows.items arguments.now snapshots.items))) }
     {
+        self.name_from::<Brand>(alloc, arguments, number, snapshots, Blank::new(1))
+    }
+
+    // The same, with a ledger for its steps.
+    fn name_from<L: Ledger>(
+        &mut self,
+        alloc: Global,
+        arguments: &[Argument],
+        number: u64,
+        snapshots: Vec<Option<Buffer>>,
+        blank: Blank,
+    ) -> Result<Named, NoMemory>
+        requires name { blank.name ≡ L.name }
+        requires parts { blank.parts ≡ L.parts }
+        requires some { 0 < L.parts }
+        requires few { length arguments.now ≤ 32 }
+        requires fit { AreFit arguments.now }
+        requires apart { list_any (overlaps_partly (objects self.old) (map given arguments.now)) (map given arguments.now) ≡ false }
+        requires snapshots { length snapshots.items ≡ length arguments.now }
+        ensures windows { IfOk result (λ n. AreWindows arguments.now n.windows.items) }
+        ensures inputs { IfOk result (λ n. n.inputs.items ≡ names_in 0 (read_by (all_entries self.old) (given_by n.windows.items arguments.now snapshots.items))) }
+        ensures given { IfOk result (λ n. n.given.items ≡ bytes_in (read_by (all_entries self.old) (given_by n.windows.items arguments.now snapshots.items))) }
+        ensures renamed { IfOk result (λ n. n.renamed.items ≡ map (renames (objects self.old)) (map given arguments.now)) }
+        ensures producers { IfOk result (λ n. AreMakers (read_by (all_entries self.old) (given_by n.windows.items arguments.now snapshots.items)) n.producers.items) }
+        ensures entered { IfOk result (λ n. IsPermutation (all_entries self.new) (with_given number 0 (all_entries self.old) (given_by n.windows.items arguments.now snapshots.items))) }
+    {
+        let mut steps = Steps::<L>::new(blank);
         let windows = windows_of(alloc, arguments)?;
-        let reads = self.reads_of(alloc, &windows, arguments, &snapshots)?;
-        let renamed = self.renamed_of(alloc, &windows, arguments)?;
+        let reads = self.reads_of(alloc, &windows, arguments, &snapshots, &mut steps)?;
+        let renamed = self.renamed_of(alloc, &windows, arguments, &mut steps)?;
         let inputs = names_of(alloc, &reads)?;
         let given = bytes_of(alloc, &reads)?;
         let producers = makers_of(alloc, &reads)?;
-        self.give_all(&windows, arguments, number, snapshots)?;
+        self.give_all(&windows, arguments, number, snapshots, &mut steps)?;
         Ok(Named {
             windows,
             inputs,
@@ -225,12 +265,13 @@ impl ObjectTable {
     }
 
     // The versions that a call reads, in order.
-    fn reads_of(
+    fn reads_of<L: Ledger>(
         &self,
         alloc: Global,
         windows: &[Window],
         arguments: &[Argument],
         snapshots: &[Option<Buffer>],
+        steps: &mut Steps<L>,
     ) -> Result<Vec<Held>, NoMemory>
         requires windows { length windows.now ≡ length arguments.now }
         requires snapshots { length snapshots.now ≡ length arguments.now }
@@ -239,7 +280,7 @@ impl ObjectTable {
         let mut versions = Vec::new(alloc);
         for place in 0..arguments.len() {
             let direction = arguments[place].direction;
-            match self.read_for(direction, &windows[place], &snapshots[place])? {
+            match self.read_for(direction, &windows[place], &snapshots[place], steps)? {
                 Some(v) => versions.push(v)?,
                 None => {}
             }
@@ -248,27 +289,29 @@ impl ObjectTable {
     }
 
     // The version that is read for a pointer, if it is read.
-    fn read_for(
+    fn read_for<L: Ledger>(
         &self,
         direction: Direction,
         window: &Window,
         snapshot: &Option<Buffer>,
+        steps: &mut Steps<L>,
     ) -> Result<Option<Held>, NoMemory>
         ensures { IfOk result (λ v. v ≡ read_for (all_entries self.now) (record { window = window.now; direction = direction; snapshot = snapshot.now })) }
     {
         if is_read(direction) {
-            self.read_version(window, snapshot)
+            self.read_version(window, snapshot, steps)
         } else {
             Ok(None)
         }
     }
 
     // For each argument whether it is written and its window was an object.
-    fn renamed_of(
+    fn renamed_of<L: Ledger>(
         &self,
         alloc: Global,
         windows: &[Window],
         arguments: &[Argument],
+        steps: &mut Steps<L>,
     ) -> Result<Vec<bool>, NoMemory>
         requires { AreWindows arguments.now windows.now }
         ensures { IfOk result (λ renamed. renamed.items ≡ map (renames (objects self.now)) (map given arguments.now)) }
@@ -276,26 +319,32 @@ impl ObjectTable {
         let mut renamed = Vec::new(alloc);
         for place in 0..arguments.len() {
             let direction = arguments[place].direction;
-            renamed.push(self.is_renamed(direction, &windows[place]))?;
+            renamed.push(self.is_renamed(direction, &windows[place], steps))?;
         }
         Ok(renamed)
     }
 
     // Whether a window is written and is an object's.
-    fn is_renamed(&self, direction: Direction, window: &Window) -> bool
+    fn is_renamed<L: Ledger>(
+        &self,
+        direction: Direction,
+        window: &Window,
+        steps: &mut Steps<L>,
+    ) -> bool
         ensures { result ≡ (writes direction && list_any (λ o. is_same_window (records.window window.now) o.window) (objects self.now)) }
     {
-        let there = self.held(window).is_some();
+        let there = self.held(window, steps).is_some();
         is_written(direction) && there
     }
 
     // Enters what a call is given.
-    fn give_all(
+    fn give_all<L: Ledger>(
         &mut self,
         windows: &[Window],
         arguments: &[Argument],
         number: u64,
         snapshots: Vec<Option<Buffer>>,
+        steps: &mut Steps<L>,
     ) -> Result<(), NoMemory>
         requires windows { length windows.now ≡ length arguments.now }
         requires snapshots { length snapshots.items ≡ length arguments.now }
@@ -309,19 +358,20 @@ impl ObjectTable {
         for place in 0..windows.len() {
             let direction = arguments[place].direction;
             let snapshot = next_of(&mut snapshots);
-            out = self.give(windows[place], direction, number, out, snapshot)?;
+            out = self.give(windows[place], direction, number, out, snapshot, steps)?;
         }
         Ok(())
     }
 
     // Enters what a call is given for a pointer. The answer is the number of the next writing parameter.
-    fn give(
+    fn give<L: Ledger>(
         &mut self,
         window: Window,
         direction: Direction,
         number: u64,
         out: u32,
         snapshot: Option<Buffer>,
+        steps: &mut Steps<L>,
     ) -> Result<u32, NoMemory>
         requires few { out < 32 }
         requires is_window { records.IsWindow (records.window window) }
@@ -330,35 +380,36 @@ impl ObjectTable {
         ensures entered { OnOk result (IsPermutation (all_entries self.new) (with_one number out (all_entries self.old) (record { window = window; direction = direction; snapshot = snapshot }))) }
     {
         if is_written(direction) {
-            self.make(window, number, out)?;
+            self.make(window, number, out, steps)?;
             return Ok(out + 1);
         }
         match snapshot {
-            Some(bytes) => self.read(window, bytes)?,
+            Some(bytes) => self.read(window, bytes, steps)?,
             None => {}
         }
         Ok(out)
     }
 
     // Lends the version of the object of a window.
-    fn held(&self, window: &Window) -> Option<&Held>
+    fn held<L: Ledger>(&self, window: &Window, steps: &mut Steps<L>) -> Option<&Held>
         ensures { MatchOption result (version_of (all_entries self.now) window.now ≡ None) (λ v. version_of (all_entries self.now) window.now ≡ Some v.now) }
     {
-        match self.rows.held(window) {
+        match self.rows.held(window, steps) {
             Some(v) => Some(v),
-            None => self.blocks.held(window),
+            None => self.blocks.held(window, steps),
         }
     }
 
     // The version of a window's object, or else a copy of its bytes, if there is one.
-    fn read_version(
+    fn read_version<L: Ledger>(
         &self,
         window: &Window,
         snapshot: &Option<Buffer>,
+        steps: &mut Steps<L>,
     ) -> Result<Option<Held>, NoMemory>
         ensures { IfOk result (λ v. v ≡ or_snapshot (version_of (all_entries self.now) window.now) snapshot.now) }
     {
-        match self.held(window) {
+        match self.held(window, steps) {
             Some(v) => Ok(Some(v.share()?)),
             None => match snapshot {
                 Some(bytes) => Ok(Some(Held::Kept {
@@ -371,45 +422,58 @@ impl ObjectTable {
     }
 
     // Gives a window's object, which may be new, the version that a task makes of it. `NoMemory` leaves all as it was.
-    fn make(&mut self, window: Window, task: u64, out: u32) -> Result<(), NoMemory>
+    fn make<L: Ledger>(
+        &mut self,
+        window: Window,
+        task: u64,
+        out: u32,
+        steps: &mut Steps<L>,
+    ) -> Result<(), NoMemory>
         requires is_window { records.IsWindow (records.window window) }
         requires clear { list_any (λ o. overlap (records.window window) o.window) (objects self.old) ≡ false }
         ensures ok { OnOk result (IsPermutation (all_entries self.new) (with_version (all_entries self.old) window (held.Made task out))) }
         ensures err { OnErr result (self.new ≡ self.old) }
     {
         if 1 < window.rows {
-            return self.make_block(window, task, out);
+            return self.make_block(window, task, out, steps);
         }
-        match self.rows.found(window.base) {
-            Some(f) => self.make_old(f, window, task, out),
-            None => self.make_new(window, task, out),
+        match self.rows.find(window.base, steps) {
+            Some(f) => self.make_old(f, window, task, out, steps),
+            None => self.make_new(window, task, out, steps),
         }
     }
 
     // The same of several rows.
-    fn make_block(&mut self, window: Window, task: u64, out: u32) -> Result<(), NoMemory>
+    fn make_block<L: Ledger>(
+        &mut self,
+        window: Window,
+        task: u64,
+        out: u32,
+        steps: &mut Steps<L>,
+    ) -> Result<(), NoMemory>
         requires is_window { records.IsWindow (records.window window) }
         requires several { 1 < window.rows }
         requires clear { list_any (λ o. overlap (records.window window) o.window) (objects self.old) ≡ false }
         ensures ok { OnOk result (IsPermutation (all_entries self.new) (with_version (all_entries self.old) window (held.Made task out))) }
         ensures err { OnErr result (self.new ≡ self.old) }
     {
-        match self.blocks.found(window.base) {
+        match self.blocks.find(window.base, steps) {
             Some(f) => {
                 self.blocks.set(f.place, Held::Made { task, out });
                 Ok(())
             }
-            None => self.blocks.insert(window, Held::Made { task, out }),
+            None => self.blocks.insert(window, Held::Made { task, out }, steps),
         }
     }
 
     // The same of one row that is an object.
-    fn make_old(
+    fn make_old<L: Ledger>(
         &mut self,
         found: Found,
         window: Window,
         task: u64,
         out: u32,
+        steps: &mut Steps<L>,
     ) -> Result<(), NoMemory>
         requires is_window { records.IsWindow (records.window window) }
         requires found { IsOfBase (windows self.old.rows) window.base found }
@@ -417,13 +481,13 @@ impl ObjectTable {
         ensures ok { OnOk result (IsPermutation (all_entries self.new) (with_version (all_entries self.old) window (held.Made task out))) }
         ensures err { OnErr result (self.new ≡ self.old) }
     {
-        match self.written.found(window.base) {
+        match self.written.find(window.base, steps) {
             Some(_) => {
                 self.rows.set(found.place, Held::Made { task, out });
                 Ok(())
             }
             None => {
-                let _place = self.written.insert(window)?;
+                let _place = self.written.insert(window, steps)?;
                 self.rows.set(found.place, Held::Made { task, out });
                 Ok(())
             }
@@ -431,7 +495,13 @@ impl ObjectTable {
     }
 
     // The same of one row that is no object.
-    fn make_new(&mut self, window: Window, task: u64, out: u32) -> Result<(), NoMemory>
+    fn make_new<L: Ledger>(
+        &mut self,
+        window: Window,
+        task: u64,
+        out: u32,
+        steps: &mut Steps<L>,
+    ) -> Result<(), NoMemory>
         requires is_window { records.IsWindow (records.window window) }
         requires one { window.rows ≡ 1 }
         requires none { HasNone (windows self.old.rows) window.base }
@@ -439,55 +509,74 @@ impl ObjectTable {
         ensures ok { OnOk result (IsPermutation (all_entries self.new) (with_version (all_entries self.old) window (held.Made task out))) }
         ensures err { OnErr result (self.new ≡ self.old) }
     {
-        let _place = self.written.insert(window)?;
-        match self.rows.insert(window, Held::Made { task, out }) {
+        let _place = self.written.insert(window, steps)?;
+        match self.rows.insert(window, Held::Made { task, out }, steps) {
             Ok(()) => Ok(()),
             Err(e) => {
-                self.written.drop_base(window.base);
+                self.written.drop_base(window.base, steps);
                 Err(e)
             }
         }
     }
 
     // With an object that tasks only read, if it isn't there. `NoMemory` leaves all as it was.
-    fn read(&mut self, window: Window, bytes: Buffer) -> Result<(), NoMemory>
+    fn read<L: Ledger>(
+        &mut self,
+        window: Window,
+        bytes: Buffer,
+        steps: &mut Steps<L>,
+    ) -> Result<(), NoMemory>
         requires is_window { records.IsWindow (records.window window) }
         requires clear { list_any (λ o. overlap (records.window window) o.window) (objects self.old) ≡ false }
         ensures ok { OnOk result (IsPermutation (all_entries self.new) (with_read (all_entries self.old) window bytes)) }
         ensures err { OnErr result (self.new ≡ self.old) }
     {
         if window.rows == 1 {
-            self.read_row(window, bytes)
+            self.read_row(window, bytes, steps)
         } else {
-            self.read_block(window, bytes)
+            self.read_block(window, bytes, steps)
         }
     }
 
     // The same of one row.
-    fn read_row(&mut self, window: Window, bytes: Buffer) -> Result<(), NoMemory>
+    fn read_row<L: Ledger>(
+        &mut self,
+        window: Window,
+        bytes: Buffer,
+        steps: &mut Steps<L>,
+    ) -> Result<(), NoMemory>
         requires is_window { records.IsWindow (records.window window) }
         requires one { window.rows ≡ 1 }
         requires clear { list_any (λ o. overlap (records.window window) o.window) (objects self.old) ≡ false }
         ensures ok { OnOk result (IsPermutation (all_entries self.new) (with_read (all_entries self.old) window bytes)) }
         ensures err { OnErr result (self.new ≡ self.old) }
     {
-        match self.rows.found(window.base) {
+        match self.rows.find(window.base, steps) {
             Some(_) => Ok(()),
-            None => self.rows.insert(window, Held::Kept { bytes, by: None }),
+            None => self
+                .rows
+                .insert(window, Held::Kept { bytes, by: None }, steps),
         }
     }
 
     // The same of several rows.
-    fn read_block(&mut self, window: Window, bytes: Buffer) -> Result<(), NoMemory>
+    fn read_block<L: Ledger>(
+        &mut self,
+        window: Window,
+        bytes: Buffer,
+        steps: &mut Steps<L>,
+    ) -> Result<(), NoMemory>
         requires is_window { records.IsWindow (records.window window) }
         requires several { 1 < window.rows }
         requires clear { list_any (λ o. overlap (records.window window) o.window) (objects self.old) ≡ false }
         ensures ok { OnOk result (IsPermutation (all_entries self.new) (with_read (all_entries self.old) window bytes)) }
         ensures err { OnErr result (self.new ≡ self.old) }
     {
-        match self.blocks.found(window.base) {
+        match self.blocks.find(window.base, steps) {
             Some(_) => Ok(()),
-            None => self.blocks.insert(window, Held::Kept { bytes, by: None }),
+            None => self
+                .blocks
+                .insert(window, Held::Kept { bytes, by: None }, steps),
         }
     }
 
@@ -612,9 +701,22 @@ impl ObjectTable {
         ensures rows { self.new.rows ≡ without base self.old.rows }
         ensures blocks { self.new.blocks ≡ without base self.old.blocks }
     {
-        self.rows.drop_base(base);
-        self.blocks.drop_base(base);
-        self.written.drop_base(base);
+        self.waited_from::<Brand>(base, Blank::new(1));
+    }
+
+    // The same, with a ledger for its steps.
+    fn waited_from<L: Ledger>(&mut self, base: u32, blank: Blank)
+        requires name { blank.name ≡ L.name }
+        requires parts { blank.parts ≡ L.parts }
+        requires some { 0 < L.parts }
+        ensures objects { objects self.new ≡ filter (λ o. not (o.window.base == base)) (objects self.old) }
+        ensures rows { self.new.rows ≡ without base self.old.rows }
+        ensures blocks { self.new.blocks ≡ without base self.old.blocks }
+    {
+        let mut steps = Steps::<L>::new(blank);
+        self.rows.drop_base(base, &mut steps);
+        self.blocks.drop_base(base, &mut steps);
+        self.written.drop_base(base, &mut steps);
     }
 
     /// How a window stands to the pending objects.

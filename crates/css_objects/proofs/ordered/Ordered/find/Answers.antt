@@ -1,4 +1,4 @@
-use Rattle.std.proofs.Common.{◌+◌, ◌≡◌, subst, arith}
+use Rattle.std.proofs.Common.{◌+◌}
 use Rattle.css_objects.specs.Ordered.{IsLastBelow}
 use Rattle.css_objects.proofs.Searches.{none_but_last}
 use Rattle.css_objects.proofs.ordered.Ordered.find.Goals as goal

@@ -2,7 +2,7 @@ use Rattle.std.proofs.Common.{◌&&◌, sym, ◌∙◌, arith}
 use Rattle.css_record.specs.Windows.{window}
 use Rattle.css_semantics.specs.WindowRanges.{window_meets}
 use Rattle.css_objects.specs.Table.{Entry, is_written}
-use Rattle.css_objects.proofs.Lists.{map_place, any_one}
+use Rattle.css_arguments.proofs.Lists.{map_place, any_one}
 use Rattle.css_objects.proofs.Tables.{met_begin, met_more, met_end}
 use Rattle.css_objects.proofs.part.Part.has_written.Goals as goal
 

@@ -9,12 +9,12 @@ use Rattle.css_objects.proofs.Inserts.{entries-insert}
 use Rattle.css_objects.proofs.part.Part.insert.Goals as goal
 
 pub insert-requires : goal.insert-requires
-insert-requires c =
+insert-requires g c =
     let p = c.self.inside in
     subst (λ (ws : List Window). HasNone ws c.args.window.base) (sym (part_windows p.windows p.versions.items c.args.self.now c.self.invariant c.self.view_is)) c.requires
 
 pub returns-clause-ok : goal.returns-clause-ok
-returns-clause-ok c =
+returns-clause-ok g c =
     let p = c.self.inside in
     let place = c.in_ok-place.place in
     let ok = c.in_ok-place.ensures.ok in

@@ -1,4 +1,4 @@
-use Rattle.std.proofs.Common.{List, sym, subst, length, ℕ, MatchOption}
+use Rattle.std.proofs.Common.{List, sym, subst, ℕ, MatchOption}
 use Rattle.css_record.specs.declared.window.Window.{Window}
 use Rattle.css_objects.specs.Ordered.{IsSearch}
 use Rattle.css_objects.specs.Found.{AreRows, NoneMeets, IsLastMeeting}

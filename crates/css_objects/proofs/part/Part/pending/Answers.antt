@@ -1,7 +1,6 @@
 use Rattle.std.proofs.Common.{refl, ◌<◌, length, arith}
 use Rattle.std.proofs.lemmas.Option.{slice_get_within}
-use Rattle.css_objects.specs.Table.{windows}
-use Rattle.css_objects.proofs.Tables.{part_windows, part_inside, part_entry}
+use Rattle.css_objects.proofs.Tables.{part_inside, part_entry}
 use Rattle.css_objects.proofs.part.Part.pending.Goals as goal
 use Rattle.css_objects.proofs.part.Part.pending.Goals.{in-Made, in-Kept}
 

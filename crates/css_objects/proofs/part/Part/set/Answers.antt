@@ -1,4 +1,4 @@
-use Rattle.std.proofs.Common.{◌≡◌, length, slice_set, sym, ap, ◌∙◌, arith}
+use Rattle.std.proofs.Common.{slice_set, ap, ◌∙◌, arith}
 use Rattle.css_objects.proofs.Tables.{part_length, part_windows, windows-entries}
 use Rattle.css_objects.proofs.Kept.{part_versions, versions-entries}
 use Rattle.std.proofs.lemmas.List.{length-set}

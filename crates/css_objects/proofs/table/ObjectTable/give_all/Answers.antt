@@ -1,26 +1,25 @@
-use Rattle.std.proofs.Common.{◌≡◌, ◌<◌, ◌+◌, ◌∷◌, length, drop, get_or, slice_get, Option, Some, arith, sym, ap, ◌∙◌}
-use Rattle.std.specs.Vec.Iter.{into_iter_items}
+use Rattle.std.proofs.Common.{◌+◌, drop, get_or, Some, arith, sym, ap, ◌∙◌}
 use Rattle.css_record.specs.declared.window.Window.{Window}
-use Rattle.css_objects.specs.declared.argument.Argument.{Argument}
+use Rattle.css_arguments.specs.declared.argument.Argument.{Argument}
 use Rattle.css_objects.specs.Table.{all_entries}
 use Rattle.css_objects.specs.Naming.{given_by}
-use Rattle.css_objects.proofs.Looking.{within, drop_at}
-use Rattle.css_objects.proofs.Measures.{at_get_or}
+use Rattle.css_arguments.proofs.Looking.{within, drop_at}
+use Rattle.css_arguments.proofs.Measures.{at_get_or}
 use Rattle.css_objects.proofs.Giving.{given_at, given_few, given_next, given_end}
 use Rattle.css_objects.proofs.table.ObjectTable.give_all.Goals as goal
 
 pub give-requires-clause-is_window : goal.give-requires-clause-is_window
-give-requires-clause-is_window c =
+give-requires-clause-is_window g c =
     let zero : Window = record { base = 0; rows = 0; width = 0; stride = 0 } in
     c.requires.are c.loop-place.place (get_or c.args.windows.now c.loop-place.place zero) (at_get_or c.args.windows.now c.loop-place.place zero c.loop-place-test.true)
 
 pub give-requires-clause-clear : goal.give-requires-clause-clear
-give-requires-clause-clear c =
+give-requires-clause-clear g c =
     let zero : Window = record { base = 0; rows = 0; width = 0; stride = 0 } in
     c.loop-place.invariant.entered.clear c.loop-place.place (get_or c.args.windows.now c.loop-place.place zero) (at_get_or c.args.windows.now c.loop-place.place zero c.loop-place-test.true)
 
 pub loop-place-preserved : goal.loop-place-preserved
-loop-place-preserved c =
+loop-place-preserved g c =
     let zero : Window = record { base = 0; rows = 0; width = 0; stride = 0 } in
     let w : Window = get_or c.args.windows.now c.loop-place.place zero in
     let a : Argument = get_or c.args.arguments.now c.loop-place.place c.index-arguments-place.result in
@@ -41,6 +40,6 @@ loop-place-preserved c =
     }
 
 pub returns : goal.returns
-returns c =
+returns g c =
     given_end c.args.number c.args.windows.now (given_by c.args.windows.now c.args.arguments.now c.args.snapshots.items) (all_entries c.args.self.now) c.loop-place.place c.loop-place.out
     (all_entries c.loop-place.self) c.loop-place.invariant.entered (omega (arith, given_few c.args.windows.now c.args.arguments.now c.args.snapshots.items, c.loop-place-test.false))

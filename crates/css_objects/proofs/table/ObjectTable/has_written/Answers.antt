@@ -1,4 +1,4 @@
-use Rattle.std.proofs.Common.{◌≡◌, ◌+◌, ◌||◌, ℕ, Bool, false, length, sym, subst, ap, ◌∙◌, arith}
+use Rattle.std.proofs.Common.{◌≡◌, ◌||◌, ℕ, false, length, sym, subst, ap, ◌∙◌, arith}
 use Rattle.css_semantics.specs.Rules.{meets}
 use Rattle.css_objects.specs.Table.{Table, objects}
 use Rattle.css_objects.specs.Found.{TakesAtMost}

@@ -11,13 +11,13 @@ use Rattle.css_objects.proofs.Making.{table-remade_block, block_remade}
 use Rattle.css_objects.proofs.table.ObjectTable.make_block.Goals as goal
 
 pub invariant_of-self : goal.invariant_of-self
-invariant_of-self c =
+invariant_of-self g c =
     let t = c.self.inside in
     let clear = subst (λ (x : Table). list_any (λ o. overlap (window c.args.window) o.window) (objects x) ≡ false) (sym c.self.view_is) c.requires.clear in
     table-remade_block t.rows t.blocks t.written c.self.invariant c.args.window c.requires.is_window clear c.args.task c.args.out c.in-Some.f c.in-Some.ensures.found c.set.new.self c.set.ensures.windows c.set.ensures.versions
 
 pub invariant_of-self-in-None : goal.invariant_of-self-in-None
-invariant_of-self-in-None c =
+invariant_of-self-in-None g c =
     let t = c.self.inside in
     let clear = subst (λ (x : Table). list_any (λ o. overlap (window c.args.window) o.window) (objects x) ≡ false) (sym c.self.view_is) c.requires.clear in
     block_left t.rows t.blocks t.written c.self.invariant c.args.window c.requires.is_window clear
@@ -25,14 +25,14 @@ invariant_of-self-in-None c =
     c.insert.result c.insert.new.self c.requires.several c.insert.ensures.ok c.insert.ensures.err
 
 pub returns-in-Some-clause-ok : goal.returns-in-Some-clause-ok
-returns-in-Some-clause-ok c =
+returns-in-Some-clause-ok g c =
     let t = c.self.inside in
     let clear = subst (λ (x : Table). list_any (λ o. overlap (window c.args.window) o.window) (objects x) ≡ false) (sym c.self.view_is) c.requires.clear in
     subst (λ (x : Table). IsPermutation (all_entries (record { rows = t.rows; blocks = c.set.new.self })) (with_version (all_entries x) c.args.window (held.Made c.args.task c.args.out))) c.self.view_is
     (block_remade t.rows t.blocks t.written c.self.invariant c.args.window c.requires.is_window clear c.args.task c.args.out c.in-Some.f c.in-Some.ensures.found c.set.new.self c.set.ensures.windows c.set.ensures.versions)
 
 pub returns-in-None-clause-ok : goal.returns-in-None-clause-ok
-returns-in-None-clause-ok c =
+returns-in-None-clause-ok g c =
     let t = c.self.inside in
     let clear = subst (λ (x : Table). list_any (λ o. overlap (window c.args.window) o.window) (objects x) ≡ false) (sym c.self.view_is) c.requires.clear in
     subst (λ (x : Table). OnOk c.insert.result (IsPermutation (all_entries (record { rows = t.rows; blocks = c.insert.new.self })) (with_version (all_entries x) c.args.window (held.Made c.args.task c.args.out)))) c.self.view_is

@@ -1,4 +1,4 @@
-use Rattle.std.proofs.Common.{◌≡◌, OnOk, false, length, sym, subst, arith}
+use Rattle.std.proofs.Common.{◌≡◌, false, sym, subst, arith}
 use Rattle.std.proofs.lemmas.Result.{err_from_is_err_and}
 use Rattle.std.specs.List.{list_any}
 use Rattle.std.specs.List.Sorted.{IsPermutation}
@@ -14,7 +14,7 @@ use Rattle.css_objects.proofs.Making.{row_remade, table-remade, table-written, i
 use Rattle.css_objects.proofs.table.ObjectTable.make_old.Goals as goal
 
 pub invariant_of-self : goal.invariant_of-self
-invariant_of-self c =
+invariant_of-self g c =
     let t = c.self.inside in
     let clear = subst (λ (x : Table). list_any (λ o. overlap (window c.args.window) o.window) (objects x) ≡ false) (sym c.self.view_is) c.requires.clear in
     let of = subst (λ (x : Table). IsOfBase (windows x.rows) c.args.window.base c.args.found) (sym c.self.view_is) c.requires.found in
@@ -22,13 +22,13 @@ invariant_of-self c =
     (is_old_written t.rows t.blocks t.written c.self.invariant c.args.window c.requires.is_window clear c.args.task c.args.out c.args.found of c.set.new.self c.set.ensures.windows c.set.ensures.versions c.in-Some.field-0 c.in-Some.ensures.found)
 
 pub set-requires-in-None : goal.set-requires-in-None
-set-requires-in-None c =
+set-requires-in-None g c =
     let t = c.self.inside in
     let of = subst (λ (x : Table). IsOfBase (windows x.rows) c.args.window.base c.args.found) (sym c.self.view_is) c.requires.found in
     omega (arith, slice_get_within (windows t.rows) c.args.found.place c.args.found.window of.stands, length-map t.rows (λ (e : Entry). e.window))
 
 pub invariant_of-self-in-None : goal.invariant_of-self-in-None
-invariant_of-self-in-None c =
+invariant_of-self-in-None g c =
     let t = c.self.inside in
     let clear = subst (λ (x : Table). list_any (λ o. overlap (window c.args.window) o.window) (objects x) ≡ false) (sym c.self.view_is) c.requires.clear in
     let of = subst (λ (x : Table). IsOfBase (windows x.rows) c.args.window.base c.args.found) (sym c.self.view_is) c.requires.found in
@@ -37,7 +37,7 @@ invariant_of-self-in-None c =
     c.in_ok-_place-in-None._place c.in_ok-_place-in-None.ensures.ok.0 c.insert.new.self c.in_ok-_place-in-None.ensures.ok.1 c.in_ok-_place-in-None.ensures.ascends
 
 pub returns-in-Some-clause-ok : goal.returns-in-Some-clause-ok
-returns-in-Some-clause-ok c =
+returns-in-Some-clause-ok g c =
     let t = c.self.inside in
     let clear = subst (λ (x : Table). list_any (λ o. overlap (window c.args.window) o.window) (objects x) ≡ false) (sym c.self.view_is) c.requires.clear in
     let of = subst (λ (x : Table). IsOfBase (windows x.rows) c.args.window.base c.args.found) (sym c.self.view_is) c.requires.found in
@@ -45,7 +45,7 @@ returns-in-Some-clause-ok c =
     (row_remade t.rows t.blocks t.written c.self.invariant c.args.window c.requires.is_window clear c.args.task c.args.out c.args.found of c.set.new.self c.set.ensures.windows c.set.ensures.versions)
 
 pub returns-in_ok-_place-in-None-clause-ok : goal.returns-in_ok-_place-in-None-clause-ok
-returns-in_ok-_place-in-None-clause-ok c =
+returns-in_ok-_place-in-None-clause-ok g c =
     let t = c.self.inside in
     let clear = subst (λ (x : Table). list_any (λ o. overlap (window c.args.window) o.window) (objects x) ≡ false) (sym c.self.view_is) c.requires.clear in
     let of = subst (λ (x : Table). IsOfBase (windows x.rows) c.args.window.base c.args.found) (sym c.self.view_is) c.requires.found in
@@ -53,4 +53,4 @@ returns-in_ok-_place-in-None-clause-ok c =
     (row_remade t.rows t.blocks t.written c.self.invariant c.args.window c.requires.is_window clear c.args.task c.args.out c.args.found of c.set-in-None.new.self c.set-in-None.ensures.windows c.set-in-None.ensures.versions)
 
 pub returns-in_err-_place-in-None-clause-ok : goal.returns-in_err-_place-in-None-clause-ok
-returns-in_err-_place-in-None-clause-ok c = let p = err_from_is_err_and c.from_residual.result c.from_residual.ensures.1 in rw p.1 tt
+returns-in_err-_place-in-None-clause-ok g c = let p = err_from_is_err_and c.from_residual.result c.from_residual.ensures.1 in rw p.1 tt

@@ -1,4 +1,4 @@
-use Rattle.std.proofs.Common.{◌≡◌, ◌≤◌, true, not, length, sym, ap, ◌∙◌, subst, arith}
+use Rattle.std.proofs.Common.{◌≡◌, true, not, length, sym, ap, subst, arith}
 use Rattle.std.specs.List.{list_any}
 use Rattle.css_semantics.specs.Tasks.{is_same_window}
 use Rattle.css_record.specs.Windows.{window}

@@ -1,13 +1,12 @@
-use Rattle.std.proofs.Common.{◌≡◌, ◌+◌, true, false, Some, map, length, subst, sym, ap, ◌∙◌, arith}
-use Rattle.std.specs.List.{list_any}
+use Rattle.std.proofs.Common.{◌+◌, Some, map, length, sym, ap, ◌∙◌, arith}
 use Rattle.std.proofs.lemmas.List.{length-map}
 use Rattle.css_semantics.specs.Tasks as tasks
-use Rattle.css_semantics.specs.Rules.{overlap, overlaps_partly}
+use Rattle.css_semantics.specs.Rules.{overlaps_partly}
 use Rattle.css_record.specs.Windows.{window}
-use Rattle.css_objects.specs.Arguments.{given}
+use Rattle.css_arguments.specs.Arguments.{given}
 use Rattle.css_objects.specs.Table.{objects}
-use Rattle.css_objects.proofs.Lists.{place_map}
-use Rattle.css_objects.proofs.Looking.{within, any_begin, any_found, any_next, any_over}
+use Rattle.css_arguments.proofs.Lists.{place_map}
+use Rattle.css_arguments.proofs.Looking.{within, any_begin, any_found, any_next, any_over}
 use Rattle.css_objects.proofs.Judges.{steps_begin, steps_next, steps_end, by_object, by_given, by_neither}
 use Rattle.css_objects.proofs.table.ObjectTable.overlaps_partly.Goals as goal
 

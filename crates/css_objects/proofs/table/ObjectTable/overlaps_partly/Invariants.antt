@@ -1,9 +1,9 @@
 use Rattle.std.proofs.Common.{map, length}
 use Rattle.css_semantics.specs.Tasks as tasks
 use Rattle.css_semantics.specs.Rules.{overlaps_partly}
-use Rattle.css_objects.specs.Arguments.{given}
+use Rattle.css_arguments.specs.Arguments.{given}
 use Rattle.css_objects.specs.Table.{objects}
-use Rattle.css_objects.proofs.Looking.{AnyLeft}
+use Rattle.css_arguments.proofs.Looking.{AnyLeft}
 use Rattle.css_objects.proofs.Judges.{StepsLeft}
 use Rattle.css_objects.proofs.table.ObjectTable.overlaps_partly.Given as goal
 

@@ -1,4 +1,4 @@
-use Rattle.std.proofs.Common.{◌≡◌, subst}
+use Rattle.std.proofs.Common.{subst}
 use Rattle.css_objects.specs.Table.{Table, IsTable}
 use Rattle.css_objects.proofs.Snapshots.{probe_overlap}
 use Rattle.std.proofs.Common.{sym}

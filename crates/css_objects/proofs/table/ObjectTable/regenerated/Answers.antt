@@ -1,4 +1,4 @@
-use Rattle.std.proofs.Common.{◌≡◌, sym, ap, ◌∙◌}
+use Rattle.std.proofs.Common.{ap, ◌∙◌}
 use Rattle.std.specs.Vec.Iter.{into_iter_items}
 use Rattle.css_objects.specs.Table.{Table, all_entries, objects}
 use Rattle.css_objects.specs.Versions.{versions, kept_in}

@@ -1,19 +1,17 @@
-use Rattle.std.proofs.Common.{◌≡◌, ◌<◌, ◌++◌, ◌&&◌, Bool, [], ◌∷◌, length, map, take, get_or, arith, sym, ap, ◌∙◌}
-use Rattle.std.specs.List.{list_any}
-use Rattle.css_semantics.specs.Tasks.{is_same_window, writes}
+use Rattle.std.proofs.Common.{◌≡◌, ◌<◌, ◌++◌, Bool, [], ◌∷◌, length, map, take, get_or, arith, sym, ap, ◌∙◌}
 use Rattle.css_record.specs.declared.window.Window.{Window}
-use Rattle.css_objects.specs.declared.argument.Argument.{Argument}
-use Rattle.css_objects.specs.Arguments.{given}
+use Rattle.css_arguments.specs.declared.argument.Argument.{Argument}
+use Rattle.css_arguments.specs.Arguments.{given}
 use Rattle.css_objects.specs.Table.{objects}
 use Rattle.css_objects.specs.Naming.{renames}
-use Rattle.css_objects.proofs.Lists.{place_map}
-use Rattle.css_objects.proofs.Looking.{take_at}
-use Rattle.css_objects.proofs.Measures.{at_get_or}
+use Rattle.css_arguments.proofs.Lists.{place_map}
+use Rattle.css_arguments.proofs.Looking.{take_at}
+use Rattle.css_arguments.proofs.Measures.{at_get_or}
 use Rattle.css_objects.proofs.Giving.{renamed_is, window_is, windows_long}
 use Rattle.css_objects.proofs.table.ObjectTable.renamed_of.Goals as goal
 
 pub loop-place-preserved : goal.loop-place-preserved
-loop-place-preserved c =
+loop-place-preserved g c =
     let zero : Window = record { base = 0; rows = 0; width = 0; stride = 0 } in
     let within : c.loop-place.place < length c.args.windows.now = omega (arith, windows_long c.args.arguments.now c.args.windows.now c.requires, c.loop-place-test.true) in
     let w : Window = get_or c.args.windows.now c.loop-place.place zero in

@@ -1,7 +1,7 @@
 use Rattle.std.proofs.Common.{slice_get, Some, ◌≡◌, sym, subst}
 use Rattle.std.proofs.lemmas.Option.{slice_get_within}
 use Rattle.css_objects.specs.Table.{Entry, Table, windows}
-use Rattle.css_objects.proofs.Lists.{map_place}
+use Rattle.css_arguments.proofs.Lists.{map_place}
 use Rattle.css_objects.proofs.Taking.{table-without_block}
 use Rattle.css_objects.proofs.table.ObjectTable.take_block.Goals as goal
 

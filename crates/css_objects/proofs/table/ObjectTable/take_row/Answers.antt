@@ -1,8 +1,7 @@
-use Rattle.std.proofs.Common.{slice_get, Some, ◌≡◌, sym, subst, ◌∙◌, false}
+use Rattle.std.proofs.Common.{slice_get, Some, ◌≡◌, sym, subst, false}
 use Rattle.std.proofs.lemmas.Option.{slice_get_within}
-use Rattle.css_objects.specs.Table.{Entry, Table, windows, is_written, IsTable}
-use Rattle.css_objects.specs.Ordered.{IsAscending}
-use Rattle.css_objects.proofs.Lists.{map_place}
+use Rattle.css_objects.specs.Table.{Entry, Table, windows, is_written}
+use Rattle.css_arguments.proofs.Lists.{map_place}
 use Rattle.css_objects.proofs.Taking.{table-without_row}
 use Rattle.css_objects.proofs.table.ObjectTable.take_row.Goals as goal
 

@@ -1,0 +1,4 @@
+pub mod Lists
+pub mod Arguments
+pub mod Layouts
+pub mod Rooms

@@ -1,0 +1,10 @@
+pub mod Stacks
+pub mod Requests
+pub mod Inside
+pub mod Rows
+pub mod Runs
+pub mod Made
+pub mod Submitting
+pub mod Calls
+pub mod Entries
+pub mod Callers

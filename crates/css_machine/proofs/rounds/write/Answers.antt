@@ -1,0 +1,13 @@
+use Rattle.std.proofs.Common.{arith}
+use Rattle.css_isa.specs.declared.code.Op.TheVariants as ops
+use Rattle.css_isa.specs.Code.{code_of}
+use Rattle.css_machine.proofs.Made.{finds_before, makes_out}
+use Rattle.css_machine.proofs.rounds.write.Goals as goal
+
+pub top-requires : goal.top-requires
+top-requires c = omega (arith, (finds_before (code_of c.args.code.now) (ops.Out c.args.conversion) c.args.line c.args.activations.now c.requires.fits c.requires.before).0)
+
+pub returns : goal.returns
+returns c =
+    rw (c.in_ok-printed.ensures, c.advance.ensures)
+    (makes_out (code_of c.args.code.now) c.args.line c.args.conversion c.args.activations.now c.top.result c.top.ensures.0 c.requires.before c.top.ensures.1)

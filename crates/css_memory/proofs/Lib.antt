@@ -1,0 +1,12 @@
+pub mod Overlays
+pub mod Ranges
+pub mod Places
+pub mod ReadBytes
+pub mod StoredBytes
+pub mod StartBytes
+pub mod RowSteps
+pub mod Replies
+pub mod Counts
+pub mod Marks
+pub mod FlatStates
+pub mod Untouched

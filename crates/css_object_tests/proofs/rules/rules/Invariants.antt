@@ -1,0 +1,4 @@
+use Rattle.css_object_tests.proofs.rules.rules.Given as goal
+
+abbrev pub ghosts-all : goal.ghosts-all
+ghosts-all g a = record { name = a.blank.name; parts = a.blank.parts }

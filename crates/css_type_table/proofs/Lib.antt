@@ -1,0 +1,5 @@
+pub mod Layers
+pub mod Sizes
+pub mod Lists
+pub mod Same
+pub mod Growing
