@@ -192,30 +192,20 @@ fn combine(op: Op, stack: &mut Stack)
     ensures below { stack.new.below ≡ stack.old.below }
     ensures capacity { stack.new.capacity ≡ stack.old.capacity }
 {
-    let b = stack.pop();
-    stack.set_top(combined(op, stack.top(), b));
-}
-
-// One cell of two, of which the second is the topmost.
-#[inline(always)]
-fn combined(op: Op, a: u64, b: u64) -> u64
-    requires { IsTrue (combines op) }
-    ensures { (base : ℕ) (rest : List ℕ) → effect base op (b ∷ a ∷ rest) ≡ Gives (result ∷ rest) }
-{
     match op {
-        Op::Add => sum(a, b),
-        Op::Sub => difference(a, b),
-        Op::Mul => product(a, b),
-        Op::And => a & b,
-        Op::Or => a | b,
-        Op::Xor => a ^ b,
-        Op::Shl(width) => left_shift(width, a, b),
-        Op::Shrs(width) => right_shift(width, a, b),
-        Op::Shru(width) => unsigned_right_shift(width, a, b),
-        Op::Eq => equal(a, b),
-        Op::Ne => different(a, b),
-        Op::Lts => below(a, b),
-        Op::Ltu => unsigned_below(a, b),
+        Op::Add => stack.combine(sum),
+        Op::Sub => stack.combine(difference),
+        Op::Mul => stack.combine(product),
+        Op::And => stack.combine(|a, b| a & b),
+        Op::Or => stack.combine(|a, b| a | b),
+        Op::Xor => stack.combine(|a, b| a ^ b),
+        Op::Shl(width) => stack.combine(|a, b| left_shift(width, a, b)),
+        Op::Shrs(width) => stack.combine(|a, b| right_shift(width, a, b)),
+        Op::Shru(width) => stack.combine(|a, b| unsigned_right_shift(width, a, b)),
+        Op::Eq => stack.combine(equal),
+        Op::Ne => stack.combine(different),
+        Op::Lts => stack.combine(below),
+        Op::Ltu => stack.combine(unsigned_below),
         _ => unreachable!(),
     }
 }

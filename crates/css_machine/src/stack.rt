@@ -85,6 +85,20 @@ impl Stack {
         self.cells[self.top - 1] = cell;
     }
 
+    /// Puts a value of the two topmost cells, of which the top is the second, in their place.
+    #[inline(always)]
+    pub(crate) fn combine<F: Fn(u64, u64) -> u64>(&mut self, value: F)
+        requires callable { F.IsAlwaysCallable value }
+        requires finds { 2 ≤ length self.old.own }
+        ensures own { (a b c : ℕ) × (rest : List ℕ) × (self.old.own ≡ b ∷ a ∷ rest) × F.post value a b c × (self.new.own ≡ c ∷ rest) }
+        ensures below { self.new.below ≡ self.old.below }
+        ensures capacity { self.new.capacity ≡ self.old.capacity }
+    {
+        let b = self.pop();
+        let cell = value(self.top(), b);
+        self.set_top(cell);
+    }
+
     /// The cell so many places below the top.
     #[inline(always)]
     pub(crate) fn below_top(&self, depth: u32) -> u64

@@ -1,12 +1,11 @@
 -- One task on a yard that has no other.
 use Rattle.std.proofs.Common.{◌≡◌, ◌≤◌, ℕ, zero, suc, List, [], ◌∷◌, ◌++◌, length, map, Some, Contains, slice_get, refl, sym, ap, ◌∙◌, subst, arith}
-use Rattle.std.proofs.lemmas.List.Elements.{All-nil, All-cons, All-same}
 use Rattle.css_base.specs.declared.direction.Direction.TheVariants.{InOut}
 use Rattle.css_base.specs.declared.limits.Limits.{Limits}
 use Rattle.css_record.specs.declared.task_record.TaskRecord.{TaskRecord}
 use Rattle.css_record.specs.declared.version.VersionName.{VersionName}
 use Rattle.css_record.specs.declared.version.VersionName.TheVariants as names
-use Rattle.css_record.specs.Records.{FitsCode, IsPlainUse}
+use Rattle.css_record.specs.Records.{FitsCode}
 use Rattle.css_record.specs.Records as records
 use Rattle.css_record.specs.Windows.{window}
 use Rattle.css_semantics.specs.Rules.{room_of}
@@ -147,7 +146,6 @@ module _ (code : Code) (tasks : HasPlainTasks code) (r : TaskRecord) (s : Submit
   may_submit : MaySubmit code limits [] r (bytes ∷ [])
   may_submit = record {
     fits = fits;
-    plain = λ f shape of_task. All-same IsPlainUse (records.uses shape r) (its_use base ∷ []) (uses_of f shape of_task) (All-cons IsPlainUse (its_use base) [] (refl, refl) (All-nil IsPlainUse));
     room = subst (λ ws. room_of ws ≤ limits.local_store) (sym of.windows) room;
     few = omega arith;
     next = λ last before is. absurd (none_last last before is);

@@ -1,37 +1,26 @@
 -- What becomes of the pending objects of a tape, and of a table that stands for them.
-use Rattle.std.proofs.Common.{◌≡◌, ℕ, zero, suc, ◌+◌, ◌<◌, ◌≤◌, Bool, true, false, not, ◌&&◌, ◌||◌, ◌==◌, List, [], ◌∷◌, ◌++◌, length, map, filter, fold, find, nat_lt, is_some, is_none, slice_get, Option, Some, None, option_map, All, refl, sym, ap, ◌∙◌, subst, arith, if◌then◌else◌}
+use Rattle.std.proofs.Common.{◌≡◌, ℕ, Bool, true, false, not, ◌||◌, ◌==◌, List, [], ◌∷◌, ◌++◌, length, map, filter, fold, nat_lt, is_some, is_none, Some, None, refl, sym, ap, ◌∙◌, subst, if◌then◌else◌}
 use Rattle.std.specs.Prelude.{IsPermutation}
 use Rattle.std.specs.List.{list_any}
-use Rattle.std.proofs.lemmas.Bool.{lt-ltb, or_left, or_right}
-use Rattle.std.proofs.lemmas.List.{length-map}
-use Rattle.std.proofs.lemmas.List.Folds.{list_any-append}
-use Rattle.std.proofs.lemmas.List.Elements.{All-nil, All-cons, All-head, All-tail, All-weaker, All-filter, All-push, All-map}
-use Rattle.std.proofs.lemmas.List.Sorted.{IsPermutation-refl, IsPermutation-sym, IsPermutation-trans, IsPermutation-map, All-permutation, list_any-IsPermutation}
-use Rattle.css_base.specs.declared.direction.Direction.{Direction}
-use Rattle.css_base.specs.declared.direction.Direction.TheVariants as directions
+use Rattle.std.proofs.lemmas.List.Sorted.{IsPermutation-refl, IsPermutation-map}
 use Rattle.css_semantics.specs.Dialogue as dialogue
 use Rattle.css_semantics.specs.Dialogue.{Action, Enter, Turn, Leave, Load, Store, Out, In, Malloc, Calls, Returns, Start, Finish, Barrier, Wait, WaitFault, DimFault, Fault, End, Item, Tape}
 use Rattle.css_semantics.specs.Memory.{Memory, memory_after}
 use Rattle.css_semantics.specs.Tasks as tasks
 use Rattle.css_semantics.specs.Tasks.{is_same_window, reads, writes, body, called, has_byte}
-use Rattle.css_semantics.specs.Pending.{Object, some_from, is_named_by, with_argument, without_stored, pending_after, pending}
+use Rattle.css_semantics.specs.Pending.{Object, some_from, is_named_by, with_argument, pending_after, pending}
 use Rattle.css_semantics.specs.Verdict.{bytes_of_window}
 use Rattle.css_record.specs.declared.window.Window as records
-use Rattle.css_record.specs.declared.version.VersionName.{VersionName}
 use Rattle.css_record.specs.Windows.{window}
-use Rattle.css_arguments.specs.declared.argument.Argument as code
-use Rattle.css_arguments.specs.Arguments.{given, AreWindows}
 use Rattle.css_arguments.proofs.Lists.{any_map}
 use Rattle.css_objects.specs.declared.version.Held.{Held}
 use Rattle.css_objects.specs.declared.version.Held.TheVariants as held
-use Rattle.css_objects.specs.Table.{Entry, Table, no_objects, all_entries, objects, object, windows, maker, is_written, is_other, without}
-use Rattle.css_objects.specs.Stored.{without_read, IsUntouched, IsTaken}
-use Rattle.css_objects.specs.Versions.{versions, made_in, kept_in}
-use Rattle.css_objects.specs.Naming.{Given, given_by, version_of, or_snapshot, read_for, and_read, read_by, with_version, with_read, with_snapshot, with_one, next_out, with_given}
-use Rattle.css_objects.specs.Current.{coded, given_in, entries_after, current, is_change, Kept, kept_of, with_kept, entries_at, StandsFor, value_of, kept_to}
-use Rattle.css_objects.proofs.Keeping.{filter-map, filter-turned, filter-append}
-use Rattle.css_objects.proofs.Orders.{filter-permuted, find-permuted}
-use Rattle.css_objects.proofs.Giving.{given_permuted}
+use Rattle.css_objects.specs.Table.{Entry, Table, no_objects, all_entries, objects, object, maker, is_written, is_other, without}
+use Rattle.css_objects.specs.Stored.{without_read}
+use Rattle.css_objects.specs.Naming.{with_version, with_read, with_one, next_out, with_given}
+use Rattle.css_objects.specs.Current.{coded, given_in, entries_after, current, is_change, Kept, kept_of, with_kept, entries_at, StandsFor}
+use Rattle.css_objects.proofs.Keeping.{filter-map, filter-append}
+use Rattle.css_objects.proofs.Orders.{filter-permuted}
 
 -- ---- the objects are the pending ones
 

@@ -1,5 +1,5 @@
 -- What a call along a tape reads and gives, and a table that stands for the tape's objects.
-use Rattle.std.proofs.Common.{◌≡◌, ℕ, zero, suc, ◌+◌, ◌<◌, ◌≤◌, Bool, true, false, not, ◌&&◌, ◌||◌, List, [], ◌∷◌, ◌++◌, length, map, filter, find, nat_lt, is_none, slice_get, is_some, Option, Some, None, option_map, refl, sym, ap, ◌∙◌, subst, arith, if◌then◌else◌}
+use Rattle.std.proofs.Common.{◌≡◌, ℕ, suc, ◌≤◌, Bool, true, false, not, ◌||◌, List, [], ◌∷◌, ◌++◌, length, map, filter, nat_lt, is_none, is_some, Option, Some, None, option_map, refl, sym, ap, ◌∙◌, subst, arith, if◌then◌else◌}
 use Rattle.std.specs.Prelude.{IsPermutation}
 use Rattle.std.specs.List.{list_any}
 use Rattle.std.proofs.lemmas.Bool.{false≢true, ltb-true}
@@ -22,8 +22,7 @@ use Rattle.css_arguments.specs.Arguments.{given, AreWindows}
 use Rattle.css_arguments.proofs.Lists.{any_map}
 use Rattle.css_objects.specs.declared.version.Held.{Held}
 use Rattle.css_objects.specs.declared.version.Held.TheVariants as held
-use Rattle.css_objects.specs.Table.{Entry, Table, all_entries, objects, object, is_written, is_other, without}
-use Rattle.css_objects.specs.Stored.{without_read}
+use Rattle.css_objects.specs.Table.{Entry, Table, all_entries, objects, object, is_written, is_other}
 use Rattle.css_objects.specs.Naming.{Given, given_by, version_of, or_snapshot, read_for, and_read, read_by, with_version, with_read, with_snapshot, with_one, next_out, with_given}
 use Rattle.css_objects.specs.Current.{coded, given_in, entries_after, current, Kept, kept_of, with_kept, entries_at, StandsFor, AreSnapshots}
 use Rattle.css_objects.proofs.Keeping.{filter-map, filter-turned, filter-append}

@@ -1,5 +1,5 @@
 -- A table in which bytes have come in the places of versions that tasks make, and one that main stores into.
-use Rattle.std.proofs.Common.{◌≡◌, ℕ, zero, suc, ◌+◌, ◌<◌, ◌≤◌, Bool, true, false, not, ◌&&◌, ◌||◌, List, [], ◌∷◌, ◌++◌, length, map, filter, nat_lt, is_none, Option, Some, None, All, refl, sym, ap, ◌∙◌, subst, arith, if◌then◌else◌}
+use Rattle.std.proofs.Common.{◌≡◌, ℕ, ◌+◌, ◌<◌, Bool, true, false, not, ◌||◌, List, [], ◌∷◌, ◌++◌, length, map, nat_lt, is_none, Option, Some, None, All, refl, sym, ap, ◌∙◌, subst, arith, if◌then◌else◌}
 use Rattle.std.specs.Prelude.{IsPermutation}
 use Rattle.std.specs.List.{list_any}
 use Rattle.std.proofs.lemmas.Bool.{lt-ltb}
@@ -14,8 +14,8 @@ use Rattle.css_record.specs.Windows.{window}
 use Rattle.css_objects.specs.declared.version.Held.{Held}
 use Rattle.css_objects.specs.declared.version.Held.TheVariants as held
 use Rattle.css_objects.specs.Table.{Entry, Table, all_entries, windows, is_written, is_other}
-use Rattle.css_objects.specs.Versions.{versions, made_in, kept_first, left_by, kept_in}
-use Rattle.css_objects.specs.Naming.{Given, with_version, with_read, with_snapshot, with_one, next_out, with_given}
+use Rattle.css_objects.specs.Versions.{versions, made_in, kept_in}
+use Rattle.css_objects.specs.Naming.{Given, with_version, with_snapshot, with_one, next_out, with_given}
 use Rattle.css_objects.specs.Current.{given_in, entries_after, current, Kept, kept_of, with_kept, entries_at, StandsFor, value_of, kept_to}
 
 -- ---- versions are those of tasks that were called
@@ -144,7 +144,7 @@ same_entries (e ∷ es) (f ∷ fs) of_windows of_versions =
     ap (λ (x : records.Window). let y : Entry = record { window = x; version = e.version } in y ∷ es) w
     ∙ ap (λ (u : Held). let y : Entry = record { window = f.window; version = u } in y ∷ es) v ∙ ap (λ xs. f ∷ xs) (same_entries es fs ws vs)
 
-windows_append : (es fs : List Entry) → windows (es ++ fs) ≡ windows es ++ windows fs
+pub windows_append : (es fs : List Entry) → windows (es ++ fs) ≡ windows es ++ windows fs
 windows_append [] fs = refl
 windows_append (e ∷ es) fs = ap (λ ws. e.window ∷ ws) (windows_append es fs)
 

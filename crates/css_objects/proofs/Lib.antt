@@ -21,3 +21,4 @@ pub mod Currents
 pub mod Followed
 pub mod Generations
 pub mod Spaced
+pub mod Lengths

@@ -1,21 +1,21 @@
 -- Probes among objects of four bytes, eight bytes apart.
-use Rattle.std.proofs.Common.{◌≡◌, ℕ, zero, suc, ◌+◌, ◌*◌, ◌<◌, ◌≤◌, ◌^◌, Bool, true, false, ◌&&◌, ◌||◌, List, [], ◌∷◌, ◌++◌, length, map, slice_get, nat_lt, Some, ◌⊎◌, inl, inr, refl, sym, ap, ◌∙◌, subst, arith}
+use Rattle.std.proofs.Common.{◌≡◌, ℕ, zero, suc, ◌+◌, ◌*◌, ◌<◌, ◌≤◌, Bool, true, false, ◌&&◌, ◌||◌, List, [], length, slice_get, nat_lt, Some, inl, inr, refl, sym, ap, ◌∙◌, subst, arith}
 use Rattle.std.specs.List.{list_any}
-use Rattle.std.proofs.lemmas.Bool.{false≢true, ltb-true, lt-ltb, and_parts, and_from, cases_lt}
+use Rattle.std.proofs.lemmas.Bool.{false≢true, ltb-true, lt-ltb, and_parts, and_from}
 use Rattle.std.proofs.lemmas.List.{length-map}
 use Rattle.css_semantics.specs.Tasks.{is_same_window}
 use Rattle.css_semantics.specs.Rules.{share_byte}
 use Rattle.css_semantics.proofs.WindowRanges.{share_is_rows}
 use Rattle.css_record.specs.declared.window.Window.{Window}
 use Rattle.css_record.specs.Windows.{window}
-use Rattle.css_arguments.proofs.Lists.{map_place, place_map, place_left, any_one}
+use Rattle.css_arguments.proofs.Lists.{map_place, place_map, place_left}
 use Rattle.css_objects.specs.declared.pending.Probe.{Probe}
 use Rattle.css_objects.specs.declared.pending.Probe.TheVariants as probes
 use Rattle.css_objects.specs.Found.{TakesAtMost}
 use Rattle.css_objects.specs.Table.{Entry, Table, all_entries, objects, object, windows}
-use Rattle.css_objects.specs.Seen.{Shows, IsProbe}
+use Rattle.css_objects.specs.Seen.{IsProbe}
 use Rattle.css_objects.specs.Spaced.{one_row, spaced, IsThousand, is_same}
-use Rattle.css_objects.proofs.Probes.{place_split, same_window}
+use Rattle.css_objects.proofs.Probes.{place_split}
 use Rattle.css_objects.proofs.Snapshots.{same_refl}
 use Rattle.css_objects.proofs.Stores.{none_any}
 

@@ -8,3 +8,4 @@ pub mod Versions
 pub mod Naming
 pub mod Current
 pub mod Spaced
+pub mod Lengths

@@ -4,24 +4,27 @@ ghost use Rattle.std.specs.List.{list_any};
 ghost use Rattle.css_base.specs.declared.limits.Limits.{Limits};
 ghost use Rattle.css_semantics.specs.Dialogue.{Action, Item, Tape, Call, Calls, DimFault, Store, Wait, Barrier, Finish, End};
 ghost use Rattle.css_semantics.specs.Memory.{Memory, memory_after};
-ghost use Rattle.css_semantics.specs.Tasks.{body, called};
+ghost use Rattle.css_semantics.specs.Tasks.{body, called, window_length};
+ghost use Rattle.css_record.specs.Windows.{window};
 ghost use Rattle.css_semantics.specs.Pending.{pending};
 ghost use Rattle.css_semantics.specs.Rules.{checks_of_main, first_broken, hit, is_unsynchronised};
 ghost use Rattle.css_record.specs.declared.layout.Layout.{Layout};
 ghost use Rattle.css_record.specs.declared.window.Window.{Window};
 ghost use Rattle.css_arguments.specs.declared.argument.Argument.{Argument};
 ghost use Rattle.css_arguments.specs.Arguments.{given, is_stopped, AreWindows};
-ghost use Rattle.css_objects.specs.Table.{Table, no_objects, all_entries, objects, object, windows as windows_of, without};
-ghost use Rattle.css_objects.specs.Stored.{without_read};
+ghost use Rattle.css_objects.specs.Table.{Entry, Table, no_objects, all_entries, objects, object, windows as windows_of, without};
+ghost use Rattle.css_objects.specs.Stored.{without_read, IsTaken};
 ghost use Rattle.css_objects.specs.Versions.{versions, made_in, kept_in};
-ghost use Rattle.css_objects.specs.Naming.{version_of, read_by, given_by, with_given};
+ghost use Rattle.css_objects.specs.Naming.{Given, version_of, read_by, given_by, with_given};
 ghost use Rattle.css_objects.specs.Current.{given_in, current, is_change, AreSnapshots, Kept, entries_at, StandsFor, value_of, kept_to};
 ghost use Rattle.css_arguments.specs.Layouts.{layout_of};
 ghost use Rattle.css_objects.specs.Judged.{broken_by};
+ghost use Rattle.css_objects.specs.declared.pending.Pending.{Pending};
 ghost use Rattle.css_objects.specs.declared.pending.Probe.{Probe};
 ghost use Rattle.css_objects.specs.declared.pending.Probe.TheVariants as probes;
 ghost use Rattle.css_objects.specs.Found.{TakesAtMost};
-ghost use Rattle.css_objects.specs.Seen.{IsProbe};
+ghost use Rattle.css_objects.specs.Seen.{IsProbe, IsShown};
+ghost use Rattle.css_objects.specs.Lengths.{AreLong, AreCopiesLong, AreKeptLong, AreValuesLong, IsLentOfLength};
 ghost use Rattle.css_objects.specs.Spaced.{one_row, IsThousand, is_same};
 
 /// What a call breaks by a table that has the pending objects, in its own order, and by the layout of main's memory is what main
@@ -71,4 +74,17 @@ pub fn probes_read_ten_of_a_thousand()
     ensures same { (t : Table) (p : Probe) → IsThousand t → IsProbe t (one_row 12088 4) p → is_same p ≡ true }
     ensures nothing { (t : Table) (p : Probe) → IsThousand t → IsProbe t (one_row 12092 4) p → p ≡ probes.Nothing }
     ensures crosses { (t : Table) (p : Probe) → IsThousand t → IsProbe t (one_row 12084 8) p → p ≡ probes.Crosses (one_row 12088 4) }
+{}
+
+/// Where the bytes of a version are there, they are as many as the window has. It stays so where calls give copies that are as long as
+/// their windows (`name_args`), where main stores (`stored`) and waits (`waited`), and where bytes that are as long as the windows come in
+/// the places of versions (`regenerated`); then it is so of each object that is lent. In a table that stands for a tape it is so where
+/// the values that are kept are as long as their windows.
+pub fn versions_are_as_long_as_their_windows()
+    ensures calls { (number : ℕ) (old new : List Entry) (gs : List Given) → AreLong old → AreCopiesLong gs → IsPermutation new (with_given number 0 old gs) → AreLong new }
+    ensures stores { (old new : Table) (address count : ℕ) (w : Window) → AreLong (all_entries old) → IsTaken old address count new w → AreLong (all_entries new) }
+    ensures waits { (old new : Table) (base : ℕ) → AreLong (all_entries old) → new.rows ≡ without base old.rows → new.blocks ≡ without base old.blocks → AreLong (all_entries new) }
+    ensures generations { (old new : Table) (kept : List (List ℕ)) → AreLong (all_entries old) → AreKeptLong (all_entries old) kept → windows_of new.rows ≡ windows_of old.rows → windows_of new.blocks ≡ windows_of old.blocks → versions (all_entries new) ≡ kept_in (versions (all_entries old)) kept → AreLong (all_entries new) }
+    ensures lent { (t : Table) (p : Pending) → AreLong (all_entries t) → IsShown t p → IsLentOfLength (window_length (window p.window)) p.version }
+    ensures tapes { (k : Kept) (start : Memory) (tape : Tape) (t : Table) → StandsFor k start tape t → AreValuesLong k (current start tape) → AreLong (all_entries t) }
 {}

@@ -13,7 +13,7 @@ mod version;
 
 pub use laws::{
     accesses_are_judged_by_tables, calls_are_judged_by_tables, probes_read_ten_of_a_thousand,
-    tables_follow_tapes, tables_have_the_pending_objects,
+    tables_follow_tapes, tables_have_the_pending_objects, versions_are_as_long_as_their_windows,
 };
 pub use naming::Named;
 pub use ordered::{Found, Ordered};

@@ -97,7 +97,8 @@ impl Part {
         requires { slice_get (windows_of self.now) found.place ≡ Some found.window }
         ensures { IsSeen self.now found window.now result }
     {
-        if same(&found.window, window) {
+        let equal = same(&found.window, window);
+        if equal {
             return Probe::Same(self.pending(found.place, found.window));
         }
         Probe::Crosses(found.window)

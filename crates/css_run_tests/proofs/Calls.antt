@@ -8,12 +8,12 @@ use Rattle.css_record.specs.declared.task_record.TaskRecord.{TaskRecord}
 use Rattle.css_record.specs.declared.version.VersionName.{VersionName}
 use Rattle.css_record.specs.declared.version.VersionName.TheVariants as names
 use Rattle.css_record.specs.Windows.{window, IsWindow}
-use Rattle.css_record.specs.Records.{FitsCode, InputsFit, uses, uses_by, AllAgree, AgreeInBytes, IsClearOfStack, IsPlainUse}
+use Rattle.css_record.specs.Records.{FitsCode, InputsFit, uses, uses_by, AllAgree, AgreeInBytes, IsClearOfStack}
 use Rattle.css_semantics.specs.Rules.{room_of}
 use Rattle.css_semantics.specs.Tasks.{Window, Use}
 use Rattle.css_vm.specs.declared.code.Instr.{Instr}
 use Rattle.css_vm.specs.Code.{Routine, Shape, Code}
-use Rattle.css_task.specs.Alone.{TaskOf, IsPlainTask, InputsOf}
+use Rattle.css_task.specs.Alone.{TaskOf, InputsOf}
 use Rattle.css_yard.specs.Values.{Submit}
 use Rattle.css_yard.specs.Yards.{IsMade, FitsInput, AgreeAsInputs, MaySubmit, reading, written}
 use Rattle.css_task.proofs.OneTask.{one_shape}
@@ -66,9 +66,6 @@ module _ (body : List Instr) (r : TaskRecord) (number : ℕ) (input : VersionNam
     inputs = ap length call.inputs ∙ ap length (sym (reads_is task_routine one_window the_task));
   }
 
-  pub is_plain : IsPlainTask code r
-  is_plain f s of = subst (All IsPlainUse) (sym (use_of f s of)) (All-cons IsPlainUse the_use [] (refl, refl) (All-nil IsPlainUse))
-
   one_input : (bytes : List ℕ) → length bytes ≡ 4 → InputsFit (the_use ∷ []) (bytes ∷ [])
   one_input bytes long = record {
     lengths = ap (λ n. n ∷ []) long;
@@ -98,7 +95,6 @@ module _ (body : List Instr) (r : TaskRecord) (number : ℕ) (input : VersionNam
       → FitsInput code submits given input the_use → MaySubmit code limits submits r given
   call_may limits submits given store few next fits = record {
     fits = fits_code;
-    plain = is_plain;
     room =
         let one : room_of (map window r.windows.items) ≡ 16512 = ap (λ ws. room_of (map window ws)) call.windows in
         omega (arith, one, store);

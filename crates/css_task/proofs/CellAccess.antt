@@ -113,7 +113,7 @@ module _ (uses : List Use) (end : ℕ) (stack frames bytes words : List ℕ) (ar
   flag_by k i (inl same) = ap (has_bit words) same
   flag_by k i (inr fixed) = are.known i fixed.0 ∙ sym (are.known k fixed.1)
 
-  flag_at : (k at : ℕ) → slice_get (addresses uses) k ≡ Some at → (room m).unwritten at ≡ has_bit words k
+  pub flag_at : (k at : ℕ) → slice_get (addresses uses) k ≡ Some at → (room m).unwritten at ≡ has_bit words k
   flag_at k at is =
       let found = cell_found (addresses uses) k at is in
       let there = cell_at (addresses uses) at found.0 found.1 in
@@ -319,4 +319,5 @@ module _ (uses : List Use) (end : ℕ) (bytes words words' : List ℕ) (are : Ar
     clear = are.clear;
     agree = λ i k at is is'. still_agree i k at is is' (are.agree i k at is is');
     known = λ k fixed. fewer k (are.known k fixed);
+    none = λ k above. fewer k (are.none k above);
   }

@@ -1,78 +1,68 @@
--- What a machine over the space of a record's task comes to is what the task alone comes to, by the record.
-use Rattle.std.proofs.Common.{◌≡◌, ℕ, List, [], length, map, All, Some, slice_get, refl, ap, sym, subst, ◌∙◌}
-use Rattle.std.proofs.Math.Nat.{sub-zero}
-use Rattle.std.proofs.lemmas.List.{length-map}
-use Rattle.css_base.specs.declared.limits.Limits.{Limits}
+-- What a machine over the memory of a record's task comes to is what the task alone comes to, by the record.
+use Rattle.std.proofs.Common.{◌≡◌, ℕ, List, map, All, Some, slice_get, Result, Ok, Err, IfOk, inl, inr, refl, ap, sym, subst, ◌∙◌}
 use Rattle.css_base.specs.declared.ending.Stop.{Stop}
-use Rattle.css_semantics.specs.Dialogue.{Leave, Says}
 use Rattle.css_semantics.specs.Units.{Metered, with_units}
-use Rattle.css_semantics.specs.Tasks.{Use, window_length}
-use Rattle.css_semantics.specs.Alone.{Region, TaskMemory, at_entry, task_place, given_regions}
-use Rattle.css_semantics.specs.TaskSpaces.{TaskState, place_of, space_reply, space_after, IsClearOf, ArePartedRegions}
-use Rattle.css_semantics.proofs.TaskWorlds.{Stands, counted, row_of}
-use Rattle.css_semantics.proofs.TaskRows.{IsRow, AreLengths, regions_for, regions_parted, given_is}
+use Rattle.css_semantics.specs.Tasks.{Use}
+use Rattle.css_semantics.specs.Alone.{at_entry}
+use Rattle.css_vm.specs.declared.code.ArgShape.{ArgShape}
 use Rattle.css_vm.specs.Code.{Routine, Shape, Code}
 use Rattle.css_vm.specs.Machine.{State, Begin, frame_of}
 use Rattle.css_vm.specs.Events.{IsInside, IsStacked}
 use Rattle.css_vm.specs.Soundness.{Spot, IsSound, Itself, Fits}
-use Rattle.css_vm.specs.Spaces.{IsRefusal}
 use Rattle.css_vm.specs.declared.machine.Event.{Event}
 use Rattle.css_vm.specs.declared.machine.Event.TheVariants as events
 use Rattle.css_record.specs.declared.task_record.TaskRecord.{TaskRecord}
-use Rattle.css_record.specs.Windows.{window}
-use Rattle.css_record.specs.Records.{FitsCode, AreGiven, uses, arguments}
+use Rattle.css_record.specs.declared.window.Window as coded
+use Rattle.css_record.specs.Windows.{window, IsWindow}
+use Rattle.css_record.specs.Records.{FitsCode, AreGiven, AllAgree, IsClearOfStack, InputsFit, uses, uses_by, arguments}
 use Rattle.css_task.specs.Arrivals.{Arrives}
 use Rattle.css_task.specs.Quiet.{IsQuietState}
-use Rattle.css_task.specs.Alone.{TaskOf, IsPlainTask, InputsOf, IsAlone, Halted, Outs}
-use Rattle.css_task.specs.Regions.{regions_by, AreParted}
+use Rattle.css_task.specs.Alone.{TaskOf, InputsOf, End, IsAlone, Halted, Outs}
+use Rattle.css_task.specs.Cells.{Kept, room, kept_place}
+use Rattle.css_task.specs.GivenBytes.{entry_with}
+use Rattle.css_task.specs.Placing.{AreWindows}
+use Rattle.css_task.specs.Returned.{IsReturned}
 use Rattle.css_task.proofs.OneTask.{some_same, one_shape}
-use Rattle.css_task.proofs.Ends.{stopped, ended_stopped, ended_outs}
-use Rattle.css_task.proofs.Given.{uses_windows, uses_are_windows, length-arguments, all_rows, all_both, lengths_of, uses_apart, regions_are, rows_are, all_clear_of_stack, stands_at_entry}
+use Rattle.css_task.proofs.RoomWorlds.{Stands, room_of}
+use Rattle.css_task.proofs.Entry.{entry_room}
+use Rattle.css_task.proofs.Ends.{stopped, ended_stopped, ended_outs, ended_unwritten}
+use Rattle.css_task.proofs.Fitting.{are_windows, uses_are_windows, length-arguments}
 
--- the space of these regions before the entry
-abbrev pub begun_with : List Region → (place : ℕ) → TaskState
-begun_with regions place = record { memory = record { regions = regions; place = place; stack = [] }; frames = [] }
+-- what follows from an answer's clause holds of the answer
+pub if_ok : {A E : Type 0} (result : Result A E) (P Q : A → Type 0) → ((a : A) → P a → Q a) → IfOk result P → IfOk result Q
+if_ok (Ok a) P Q gives is = gives a is
+if_ok (Err e) P Q gives is = tt
 
-module _ (code : Code) (r : TaskRecord) (inputs : List (List ℕ)) (fits : FitsCode code r) (plain : IsPlainTask code r) (given : InputsOf code r inputs) where
+module _ (code : Code) (r : TaskRecord) (inputs : List (List ℕ)) (fits : FitsCode code r) (given : InputsOf code r inputs) where
   abbrev us : List Use
   us = uses fits.shape r
 
   abbrev fitting : TaskOf code r fits.routine fits.shape
   fitting = record { function = fits.function; task = fits.task }
 
-  rows : All IsRow us
-  rows = all_rows us (plain fits.routine fits.shape fitting) (uses_are_windows fits.shape.arguments fits.routine.parameters r.scalars.items (map window r.windows.items) fits.given)
+  fit : InputsFit us inputs
+  fit = given fits.routine fits.shape fitting
 
-  lengths : AreLengths us inputs
-  lengths = lengths_of us inputs rows (given fits.routine fits.shape fitting)
+  given_windows : AreWindows fits.shape.arguments (map window r.windows.items)
+  given_windows = are_windows fits.shape.arguments fits.routine.parameters r.scalars.items (map window r.windows.items) fits.given
+
+  windows : All (λ u. IsWindow u.window) us
+  windows = uses_are_windows fits.shape.arguments (map window r.windows.items) given_windows
 
   stands : Stands us (at_entry us inputs r.stack_place)
-  stands = stands_at_entry us inputs r.stack_place fits.place rows lengths
+  stands = record { uses_are = refl; same_place = refl; room = fits.place; stack = refl }
 
-  abbrev regions : List Region
-  regions = regions_by (map window r.windows.items) inputs
+  -- the memory before the entry
+  abbrev pub entry : Kept
+  entry = entry_with us inputs r.stack_place
 
-  regions_is : regions_for us inputs ≡ regions
-  regions_is = regions_are us inputs ∙ ap (λ ws. regions_by ws inputs) (uses_windows fits.shape.arguments fits.routine.parameters r.scalars.items (map window r.windows.items) fits.given)
-
-  -- where the windows lie
-  pub are_parted : AreParted r.stack_place regions
-  are_parted = subst (AreParted r.stack_place) regions_is
-      (all_clear_of_stack r.stack_place us inputs fits.place rows fits.clear lengths, regions_parted us inputs rows (uses_apart us rows fits.agree) lengths)
-
-  -- the space before the entry
-  abbrev pub entry : TaskState
-  entry = begun_with regions r.stack_place
-
-  entry_is : (limits : Limits) (units : ℕ) → limits.task_units ≡ units → counted limits.task_units (at_entry us inputs r.stack_place) ≡ with_units entry units
-  entry_is limits units is =
-      ap (λ n. with_units (record { memory = record { regions = given_regions us inputs; place = r.stack_place; stack = [] }; frames = [] }) n) (sub-zero limits.task_units ∙ is)
-      ∙ ap (λ rs. with_units (record { memory = record { regions = rs; place = r.stack_place; stack = [] }; frames = [] }) units) (given_is us inputs rows lengths ∙ regions_is)
+  is_room : room entry ≡ room_of (at_entry us inputs r.stack_place)
+  is_room = entry_room us inputs r.stack_place windows fits.agree fit
 
   abbrev old : State
   old = Begin r.function (arguments fits.shape r) r.line
 
-  abbrev Comes : (units : ℕ) → Event → State → Metered TaskState → Type 0
+  abbrev Comes : (units : ℕ) → Event → State → Metered Kept → Type 0
   Comes units e new space' = Arrives code old (with_units entry units) e new space'
 
   pub same_routine : (f : Routine) → slice_get code.functions r.function ≡ Some f → fits.routine ≡ f
@@ -83,14 +73,25 @@ module _ (code : Code) (r : TaskRecord) (inputs : List (List ℕ)) (fits : FitsC
 
   -- ---- how the run begins
 
-  -- there is an input for each window
-  pub as_many : length r.windows.items ≡ length inputs
-  as_many =
-      sym (length-map r.windows.items window) ∙ ap length (sym (uses_windows fits.shape.arguments fits.routine.parameters r.scalars.items (map window r.windows.items) fits.given))
-      ∙ length-map us (λ u. u.window) ∙ sym (length-map us (λ u. window_length u.window)) ∙ ap length (sym lengths) ∙ length-map inputs length
-
   pub are_given : (s : Shape) → fits.shape ≡ s → (parameters : List ℕ) × AreGiven s.arguments parameters r.scalars.items (map window r.windows.items)
   are_given s same = (fits.routine.parameters, subst (λ (s : Shape). AreGiven s.arguments fits.routine.parameters r.scalars.items (map window r.windows.items)) same fits.given)
+
+  -- the uses, where the parts and the windows are the record's
+  pub uses_are : (s : Shape) → fits.shape ≡ s → (parts : List ArgShape) (ws : List coded.Window) → parts ≡ s.arguments → ws ≡ r.windows.items → uses_by parts (map window ws) ≡ us
+  uses_are s same parts ws is is' = ap (λ ps. uses_by ps (map window ws)) is ∙ ap (λ ws. uses_by s.arguments (map window ws)) is' ∙ ap (λ (s : Shape). uses s r) (sym same)
+
+  pub windows_are : (s : Shape) → fits.shape ≡ s → (parts : List ArgShape) (ws : List coded.Window) → parts ≡ s.arguments → ws ≡ r.windows.items → AreWindows parts (map window ws)
+  windows_are s same parts ws is is' =
+      subst (λ ps. AreWindows ps (map window ws)) (sym is) (subst (λ ws. AreWindows s.arguments (map window ws)) (sym is') (subst (λ (s : Shape). AreWindows s.arguments (map window r.windows.items)) same given_windows))
+
+  pub agrees : (some : List Use) → some ≡ us → AllAgree some
+  agrees some is = subst AllAgree (sym is) fits.agree
+
+  pub is_clear : (some : List Use) → some ≡ us → All (IsClearOfStack r.stack_place) some
+  is_clear some is = subst (λ us. All (IsClearOfStack r.stack_place) us) (sym is) fits.clear
+
+  pub inputs_fit : (some : List Use) → some ≡ us → InputsFit some inputs
+  inputs_fit some is = subst (λ us. InputsFit us inputs) (sym is) fit
 
   pub begins : (machine : State) (values : List ℕ) (s : Shape) → fits.shape ≡ s → machine ≡ Begin r.function values r.line → values ≡ arguments s r → machine ≡ old
   begins machine values s same is are = is ∙ ap (λ vs. Begin r.function vs r.line) (are ∙ ap (λ s. arguments s r) (sym same))
@@ -102,10 +103,7 @@ module _ (code : Code) (r : TaskRecord) (inputs : List (List ℕ)) (fits : FitsC
   pub quiet_machine : (machine : State) → machine ≡ old → IsQuietState code machine
   quiet_machine machine is = subst (IsQuietState code) (sym is) (Itself fits.routine fits.shape fits.function fits.task)
 
-  pub stacked_machine : (place : ℕ) (machine : State) → machine ≡ old → IsStacked code place machine
-  stacked_machine place machine is = subst (IsStacked code place) (sym is) tt
-
-  pub comes : (units : ℕ) (machine : State) (space : TaskState) (e : Event) (new : State) (space' : Metered TaskState) → machine ≡ old → space ≡ entry
+  pub comes : (units : ℕ) (machine : State) (space : Kept) (e : Event) (new : State) (space' : Metered Kept) → machine ≡ old → space ≡ entry
       → Arrives code machine (with_units space units) e new space' → Comes units e new space'
   comes units machine space e new space' is same arrives =
       subst (λ s. Arrives code old (with_units s units) e new space') same
@@ -114,42 +112,49 @@ module _ (code : Code) (r : TaskRecord) (inputs : List (List ℕ)) (fits : FitsC
   -- ---- how it ends
 
   -- a stop of the machine is the task's
-  pub stopped_alone : (units : ℕ) (new : State) (space' : Metered TaskState) (stop : Stop) (at : ℕ) → Comes units (events.Stopped stop at) new space' → IsAlone code r inputs units (Halted stop at)
+  pub stopped_alone : (units : ℕ) (new : State) (space' : Metered Kept) (stop : Stop) (at : ℕ) → Comes units (events.Stopped stop at) new space' → IsAlone code r inputs units (Halted stop at)
   stopped_alone units new space' stop at arrives = record {
     routine = fits.routine;
     shape = fits.shape;
     task = fitting;
     comes = λ limits is.
-        let begun = subst (λ m. Arrives code old m (events.Stopped stop at) new space') (sym (entry_is limits units is)) arrives in
-        stopped code limits us inputs r.stack_place r.function r.line (arguments fits.shape r) (all_both us rows) stands new space' stop at begun;
+        let begun = subst (λ n. Arrives code old (with_units entry n) (events.Stopped stop at) new space') (sym is) arrives in
+        stopped code limits us inputs r.stack_place r.function r.line (arguments fits.shape r) entry stands is_room new space' stop at begun;
   }
 
-  module _ (units : ℕ) (new : State) (space' : TaskState) (units' cell at : ℕ) (arrives : Comes units (events.Ended cell at) new (with_units space' units')) (inside : IsInside new) (stacked : IsStacked code (place_of space') new) where
-    -- and so is a frame that can't be left
-    pub left_stopped : (stop : Stop) → IsRefusal (space_reply space' (Leave (place_of space') fits.routine.frame)) stop → IsAlone code r inputs units (Halted stop at)
-    left_stopped stop refusal = record {
+  module _ (units : ℕ) (new : State) (space' : Kept) (units' cell at : ℕ) (arrives : Comes units (events.Ended cell at) new (with_units space' units')) (inside : IsInside new) (stacked : IsStacked code (kept_place space') new) where
+    frame : fits.routine.frame ≡ frame_of (slice_get code.functions r.function)
+    frame = sym (ap frame_of fits.function)
+
+    -- what comes of a body that has returned comes of the task
+    returned_by : (end : End) → IsReturned space' (frame_of (slice_get code.functions r.function)) at end → IsAlone code r inputs units end
+    returned_by (Outs outs) (left, written, outs_is) = record {
       routine = fits.routine;
       shape = fits.shape;
       task = fitting;
       comes = λ limits is.
-          let begun = subst (λ m. Arrives code old m (events.Ended cell at) new (with_units space' units')) (sym (entry_is limits units is)) arrives in
-          let refusal' = subst (λ n. IsRefusal (space_reply space' (Leave (place_of space') n)) stop) (sym (ap frame_of fits.function)) refusal in
-          ended_stopped code limits us inputs r.stack_place r.function r.line (arguments fits.shape r) (all_both us rows) stands new space' units' cell at begun inside stacked stop refusal';
+          let begun = subst (λ n. Arrives code old (with_units entry n) (events.Ended cell at) new (with_units space' units')) (sym is) arrives in
+          let ends = ended_outs code limits us inputs r.stack_place r.function r.line (arguments fits.shape r) entry stands is_room new space' units' cell at begun inside stacked left written in
+          (ends.0, ends.1, ends.2, ends.3, outs_is ∙ ends.4);
+    }
+    returned_by (Halted stop line) (same, inl refusal) = record {
+      routine = fits.routine;
+      shape = fits.shape;
+      task = fitting;
+      comes = λ limits is.
+          let begun = subst (λ n. Arrives code old (with_units entry n) (events.Ended cell at) new (with_units space' units')) (sym is) arrives in
+          let ends = ended_stopped code limits us inputs r.stack_place r.function r.line (arguments fits.shape r) entry stands is_room new space' units' cell at begun inside stacked stop refusal in
+          rw same ends;
+    }
+    returned_by (Halted stop line) (same, inr (left, unwritten, is_rule)) = record {
+      routine = fits.routine;
+      shape = fits.shape;
+      task = fitting;
+      comes = λ limits is.
+          let begun = subst (λ n. Arrives code old (with_units entry n) (events.Ended cell at) new (with_units space' units')) (sym is) arrives in
+          let ends = ended_unwritten code limits us inputs r.stack_place r.function r.line (arguments fits.shape r) entry stands is_room new space' units' cell at begun inside stacked left unwritten in
+          rw (same, is_rule) ends;
     }
 
-    -- where it is left, the regions have the task's outs
-    pub left_outs : (n : ℕ) → space_reply space' (Leave (place_of space') fits.routine.frame) ≡ Says n
-        → (m : TaskMemory) → (space_after space' (Leave (place_of space') fits.routine.frame)).memory ≡ m → ArePartedRegions m.regions → All (IsClearOf (task_place m) m.place) m.regions
-        → IsAlone code r inputs units (Outs (map (λ r. r.bytes) m.regions))
-    left_outs n says m is_memory parted clear = record {
-      routine = fits.routine;
-      shape = fits.shape;
-      task = fitting;
-      comes = λ limits is.
-          let begun = subst (λ m. Arrives code old m (events.Ended cell at) new (with_units space' units')) (sym (entry_is limits units is)) arrives in
-          let frame : frame_of (slice_get code.functions r.function) ≡ fits.routine.frame = ap frame_of fits.function in
-          let says' = ap (λ n. space_reply space' (Leave (place_of space') n)) frame ∙ says in
-          let memory' = ap (λ n. (space_after space' (Leave (place_of space') n)).memory) frame ∙ is_memory in
-          let same = ap (map row_of) (given_is us inputs rows lengths) ∙ rows_are us inputs rows lengths in
-          ended_outs code limits us inputs r.stack_place r.function r.line (arguments fits.shape r) (all_both us rows) stands new space' units' cell at begun inside stacked n says' m memory' rows same parted clear;
-    }
+    pub returned_alone : (end : End) → IsReturned space' fits.routine.frame at end → IsAlone code r inputs units end
+    returned_alone end returned = returned_by end (subst (λ n. IsReturned space' n at end) frame returned)

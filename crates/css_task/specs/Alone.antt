@@ -1,5 +1,5 @@
 -- What a task's run by itself comes to.
-use Rattle.std.specs.Prelude.{◌≡◌, ℕ, List, All, Some, slice_get}
+use Rattle.std.specs.Prelude.{◌≡◌, ℕ, List, Some, slice_get}
 use Rattle.css_base.specs.declared.ending.Stop.{Stop}
 use Rattle.css_base.specs.declared.limits.Limits.{Limits}
 use Rattle.css_semantics.specs.Dialogue.{Tape, Goes, Stops, Stopped}
@@ -7,7 +7,7 @@ use Rattle.css_semantics.specs.Alone.{alone_world, outs_after}
 use Rattle.css_vm.specs.Code.{Routine, Shape, Code}
 use Rattle.css_vm.specs.Machine.{alone}
 use Rattle.css_record.specs.declared.task_record.TaskRecord.{TaskRecord}
-use Rattle.css_record.specs.Records.{uses, arguments, InputsFit, IsPlainUse}
+use Rattle.css_record.specs.Records.{uses, arguments, InputsFit}
 use Rattle.css_task.specs.declared.shared.SharedEnd.{SharedEnd}
 use Rattle.css_task.specs.declared.shared.SharedEnd.TheVariants as ends
 
@@ -15,10 +15,6 @@ use Rattle.css_task.specs.declared.shared.SharedEnd.TheVariants as ends
 pub record TaskOf (code : Code) (r : TaskRecord) (f : Routine) (s : Shape) : Type 0 where
   pub function : slice_get code.functions r.function ≡ Some f
   pub task : f.task ≡ Some s
-
--- each window of the task is read and written, and is one row
-abbrev pub IsPlainTask : Code → TaskRecord → Type 0
-IsPlainTask code r = (f : Routine) (s : Shape) → TaskOf code r f s → All IsPlainUse (uses s r)
 
 -- the buffers are the inputs of the record's reading parameters
 abbrev pub InputsOf : Code → TaskRecord → (inputs : List (List ℕ)) → Type 0

@@ -3,7 +3,7 @@ use Rattle.std.specs.Prelude.{◌≡◌, ℕ, ◌+◌, [], ◌++◌}
 use Rattle.css_semantics.specs.Dialogue.{Tape, World}
 use Rattle.css_semantics.specs.Worlds.{state_after, AreOfMachine, Follows}
 use Rattle.css_semantics.specs.Units.{Metered, metered, spending}
-use Rattle.css_semantics.specs.TaskSpaces.{TaskState, place_of, space_reply, space_after}
+use Rattle.css_task.specs.Cells.{Kept, kept_place, kept_reply, kept_after}
 use Rattle.css_vm.specs.declared.machine.Event.{Event}
 use Rattle.css_vm.specs.declared.machine.Event.TheVariants as events
 use Rattle.css_vm.specs.Code.{Code}
@@ -14,22 +14,22 @@ use Rattle.css_task.specs.declared.body.BodyEnd.TheVariants as ends
 
 -- in each world that replies to a machine as the space does from the start on, the machine adds to the empty tape by itself, comes so
 -- from the first space to the other one, and this holds of the world and the tape
-abbrev pub FromStart : (start space' : Metered TaskState) → (World → Tape → Type 0) → Type 0
-FromStart start space' Holds = (w : World) → Follows w (metered space_reply) (spending space_after) [] start →
-    (more : Tape) × AreOfMachine more × (state_after (spending space_after) start more ≡ space') × Holds w (more ++ [])
+abbrev pub FromStart : (start space' : Metered Kept) → (World → Tape → Type 0) → Type 0
+FromStart start space' Holds = (w : World) → Follows w (metered kept_reply) (spending kept_after) [] start →
+    (more : Tape) × AreOfMachine more × (state_after (spending kept_after) start more ≡ space') × Holds w (more ++ [])
 
 -- there is this event
-pub record Arrives (code : Code) (old : State) (start : Metered TaskState) (e : Event) (new : State) (space' : Metered TaskState) : Type 0 where
-  pub end : Metered TaskState
+pub record Arrives (code : Code) (old : State) (start : Metered Kept) (e : Event) (new : State) (space' : Metered Kept) : Type 0 where
+  pub end : Metered Kept
   pub is_left : IsLeft e end space'
   pub does : FromStart start end (λ w tape. Does w code old e new [] tape)
 
 -- it goes on from another state
-pub record GoesOn (code : Code) (old : State) (start : Metered TaskState) (new : State) (space' : Metered TaskState) : Type 0 where
+pub record GoesOn (code : Code) (old : State) (start : Metered Kept) (new : State) (space' : Metered Kept) : Type 0 where
   pub goes : FromStart start space' (λ w tape. (steps : ℕ) × ((n : ℕ) → exec w code (steps + n) old [] ≡ exec w code n new tape))
 
 -- how a body ends: it returns, and its frame is the space's innermost one; or it stops
-abbrev pub EndsBody : Code → (old : State) (start : Metered TaskState) → BodyEnd → (new : State) (space' : Metered TaskState) → Type 0
+abbrev pub EndsBody : Code → (old : State) (start : Metered Kept) → BodyEnd → (new : State) (space' : Metered Kept) → Type 0
 EndsBody code old start (ends.Returned line) new space' =
-    ((cell : ℕ) × Arrives code old start (events.Ended cell line) new space') × IsInside new × IsStacked code (place_of space'.state) new
+    ((cell : ℕ) × Arrives code old start (events.Ended cell line) new space') × IsInside new × IsStacked code (kept_place space'.state) new
 EndsBody code old start (ends.Stopped stop line) new space' = Arrives code old start (events.Stopped stop line) new space'

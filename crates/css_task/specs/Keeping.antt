@@ -17,13 +17,14 @@ abbrev pub Agree : List Use → (bytes : List ℕ) → (i k : ℕ) → Type 0
 Agree uses bytes i k = (i ≡ k) ⊎ (IsFixed uses i × IsFixed uses k × (slice_index bytes i ≡ slice_index bytes k))
 
 -- The windows have as many bytes as are kept, and none in the stack, which takes the 16,384 bytes up to its end; bytes at one address
--- agree; and those that are yet to be written are of windows that may be.
+-- agree; and those that are yet to be written are of windows that may be, and none stands behind the last byte.
 pub record AreKept (uses : List Use) (end : ℕ) (bytes words : List ℕ) : Type 0 where
   pub long : length bytes ≡ length (addresses uses)
   pub room : length (addresses uses) ≤ 64 * length words
   pub clear : (k at : ℕ) → slice_get (addresses uses) k ≡ Some at → (at < end - 16384) ⊎ (end ≤ at)
   pub agree : (i k at : ℕ) → slice_get (addresses uses) i ≡ Some at → slice_get (addresses uses) k ≡ Some at → Agree uses bytes i k
   pub known : (k : ℕ) → IsFixed uses k → has_bit words k ≡ false
+  pub none : (k : ℕ) → length (addresses uses) ≤ k → has_bit words k ≡ false
 
 -- whether the byte of each address is in a set of offsets, the first of which is this one
 abbrev pub listed : (ℕ → Bool) → (from : ℕ) → (addresses : List ℕ) → List Bool

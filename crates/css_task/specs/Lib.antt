@@ -1,13 +1,13 @@
 pub mod Alone
-pub mod Regions
-pub mod KeptMemory
 pub mod Quiet
 pub mod OffsetSets
 pub mod Rooms
 pub mod GivenBytes
+pub mod Returned
 pub mod IsRoom
 pub mod RoomPlaces
 pub mod Keeping
 pub mod Placing
 pub mod Cells
 pub mod Arrivals
+pub mod KeptStack

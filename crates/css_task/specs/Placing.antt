@@ -1,7 +1,9 @@
 -- Where the bytes of windows are kept.
-use Rattle.std.specs.Prelude.{◌≡◌, ◌≤◌, ◌<◌, ℕ, ◌+◌, ◌*◌, ◌^◌, List, length, map, Some, slice_get}
+use Rattle.std.specs.Prelude.{◌≡◌, ◌≤◌, ◌<◌, ℕ, ◌+◌, ◌*◌, ◌^◌, List, [], ◌∷◌, length, map, Some, slice_get}
 use Rattle.css_base.specs.declared.direction.Direction.{Direction}
 use Rattle.css_semantics.specs.Tasks.{Window, Use}
+use Rattle.css_vm.specs.declared.code.ArgShape.{ArgShape}
+use Rattle.css_vm.specs.declared.code.ArgShape.TheVariants as shapes
 use Rattle.css_record.specs.Windows.{window, IsWindow}
 use Rattle.css_task.specs.Cells.{addresses, before}
 use Rattle.css_task.specs.declared.placed.Placed.{Placed}
@@ -14,6 +16,14 @@ pub record IsAt (w : Window) (address count offset : ℕ) : Type 0 where
   pub offset_is : offset ≡ row * w.width + column
   pub row_within : row < w.rows
   pub column_within : column + count ≤ w.width
+
+-- there is a window for each part that is one
+abbrev pub AreWindows : List ArgShape → List Window → Type 0
+AreWindows [] [] = Unit {0}
+AreWindows [] (w ∷ windows) = ⊥
+AreWindows (shapes.Scalar ∷ parts) windows = AreWindows parts windows
+AreWindows (shapes.Window direction element dims strided ∷ parts) [] = ⊥
+AreWindows (shapes.Window direction element dims strided ∷ parts) (w ∷ windows) = IsWindow w × AreWindows parts windows
 
 abbrev pub use_of : Placed → Use
 use_of p = record { window = window p.window; direction = p.direction }

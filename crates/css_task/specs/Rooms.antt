@@ -1,5 +1,5 @@
 -- What a machine that runs a task finds: the bytes that the task is given, which of them it has yet to write, and its stack.
-use Rattle.std.specs.Prelude.{ℕ, zero, suc, ◌+◌, ◌-◌, Bool, not, ◌&&◌, List, [], ◌∷◌, ◌++◌, length, drop, replicate, slice_index, Option, option_map, unwrap_or, if◌then◌else◌}
+use Rattle.std.specs.Prelude.{ℕ, zero, suc, ◌+◌, ◌-◌, Bool, not, ◌&&◌, List, [], ◌∷◌, ◌++◌, length, drop, replicate, flat_map, slice_index, Option, option_map, unwrap_or, if◌then◌else◌}
 use Rattle.css_base.specs.declared.rule.Rule.TheVariants as rules
 use Rattle.css_semantics.specs.Dialogue.{Action, Reply, Says, Fails, Refuses}
 use Rattle.css_semantics.specs.Actions.{Access, Enters, Leaves, Loads, Stores, Allots, NoAccess, access_of}
@@ -104,3 +104,15 @@ room_behind r NoAccess = r
 
 abbrev pub room_after : Room → Action → Room
 room_after r action = room_behind r (access_of action)
+
+-- ---- what is left
+
+-- the bytes of rows, in order
+abbrev pub rows_from : Room → (rows base width stride : ℕ) → List ℕ
+rows_from r zero base width stride = []
+rows_from r (suc rows) base width stride = bytes_from r base width ++ rows_from r rows (base + stride) width stride
+
+-- the bytes of the windows that are written, in order
+abbrev pub outs_from : Room → List Use → List (List ℕ)
+outs_from r uses =
+    flat_map (λ u. if writes u.direction then rows_from r u.window.rows u.window.base u.window.width u.window.stride ∷ [] else []) uses

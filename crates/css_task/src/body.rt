@@ -1,14 +1,14 @@
 //! The run of a task's body.
 ghost use Rattle.std.specs.Prelude.{◌≡◌, IfOk};
 ghost use Rattle.css_semantics.specs.Units.{with_units};
-ghost use Rattle.css_semantics.specs.TaskSpaces.{place_of};
+ghost use Rattle.css_task.specs.Cells.{kept_place};
 ghost use Rattle.css_vm.specs.Code.{code_of};
 ghost use Rattle.css_vm.specs.Soundness.{Fits};
 ghost use Rattle.css_vm.specs.Events.{IsStacked};
 ghost use Rattle.css_task.specs.Quiet.{IsQuietState};
 ghost use Rattle.css_task.specs.Arrivals.{EndsBody};
 
-use crate::task_space::TaskSpace;
+use crate::room::TaskRoom;
 use css_base::{Line, NoMemory, Stop};
 use css_vm::{Code, Due, Event, Machine};
 use std::alloc::Global;
@@ -28,12 +28,12 @@ pub(crate) fn run_body(
     machine: &mut Machine,
     alloc: Global,
     code: &Code,
-    space: &mut TaskSpace,
+    space: &mut TaskRoom,
     units: &mut u64,
 ) -> Result<BodyEnd, NoMemory>
     requires due { machine.old.due ≡ Due.Run }
     requires fits { Fits (code_of code.now) machine.old.state }
-    requires stacked { IsStacked (code_of code.now) (place_of space.old) machine.old.state }
+    requires stacked { IsStacked (code_of code.now) (kept_place space.old) machine.old.state }
     requires quiet { IsQuietState (code_of code.now) machine.old.state }
     ensures { IfOk result (λ end. EndsBody (code_of code.now) machine.old.state (with_units space.old units.old) end machine.new.state (with_units space.new units.new)) }
 {

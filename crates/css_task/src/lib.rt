@@ -3,12 +3,12 @@
 
 mod arguments;
 mod body;
+mod given;
 mod offsets;
-mod part;
 mod placed;
 mod room;
 mod shared;
-mod task_space;
+mod task_stack;
 mod windows;
 
 pub use shared::{SharedEnd, run_shared};

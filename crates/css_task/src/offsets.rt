@@ -13,13 +13,13 @@ pub(crate) struct Offsets {
     pub(crate) words: Vec<u64>,
     pub(crate) count: usize,
     ghost counted: { count ≡ members (has_bit words.items) (64 * length words.items) },
-    ghost short: { 64 * length words.items < 2 ^ 63 },
+    ghost short: { 64 * length words.items < 2 ^ 64 },
 }
 
 impl Offsets {
     /// None of so many offsets.
     pub(crate) fn new(alloc: Global, room: usize) -> Result<Offsets, NoMemory>
-        requires { room < 2 ^ 62 }
+        requires { room < 2 ^ 63 }
         ensures room { IfOk result (λ s. room ≤ 64 * length s.words.items) }
         ensures none { IfOk result (λ s. (k : ℕ) → has_bit s.words.items k ≡ false) }
     {
@@ -46,6 +46,17 @@ impl Offsets {
         if !self.has(offset) {
             self.words[offset / 64] |= 1 << (offset % 64);
             self.count += 1;
+        }
+    }
+
+    /// Puts so many offsets from one on in.
+    pub(crate) fn add_all(&mut self, from: usize, count: usize)
+        requires room { from + count ≤ 64 * length self.old.words.items }
+        ensures room { length self.new.words.items ≡ length self.old.words.items }
+        ensures has { (k : ℕ) → has_bit self.new.words.items k ≡ (is_between from (from + count) k || has_bit self.old.words.items k) }
+    {
+        for k in 0..count {
+            self.add(from + k);
         }
     }
 

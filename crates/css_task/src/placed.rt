@@ -12,6 +12,7 @@ pub(crate) struct Placed {
 
 impl Placed {
     ghost use Rattle.std.specs.Prelude.{◌≡◌, ◌≤◌, is_some, IfSome};
+    ghost use Rattle.css_semantics.specs.Tasks.{writes};
     ghost use Rattle.css_semantics.specs.Rules.{is_in_window};
     ghost use Rattle.css_record.specs.Windows.{window, IsWindow};
     ghost use Rattle.css_task.specs.Placing.{IsAt};
@@ -35,6 +36,17 @@ impl Placed {
             Some(row as usize * window.width as usize + column as usize)
         } else {
             None
+        }
+    }
+
+    /// Whether the task may write there.
+    pub(crate) fn is_writable(&self) -> bool
+        ensures { result ≡ writes self.now.direction }
+    {
+        match self.direction {
+            Direction::In => false,
+            Direction::Out => true,
+            Direction::InOut => true,
         }
     }
 }

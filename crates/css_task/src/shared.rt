@@ -3,12 +3,13 @@ ghost use Rattle.std.specs.Prelude.{◌≡◌, List, Some, IfOk, slice_get};
 ghost use Rattle.css_vm.specs.Code.{Routine, Shape, shape, routine, code_of};
 ghost use Rattle.css_vm.specs.Soundness.{Spot, IsSound};
 ghost use Rattle.css_record.specs.Records.{FitsCode};
-ghost use Rattle.css_task.specs.Alone.{IsPlainTask, InputsOf, IsAlone, end_of};
+ghost use Rattle.css_task.specs.Alone.{InputsOf, IsAlone, end_of};
+ghost use Rattle.css_task.specs.Returned.{IsReturned};
 
 use crate::arguments::arguments_of;
 use crate::body::{BodyEnd, run_body};
-use crate::task_space::TaskSpace;
-use css_base::{Buffer, Line, NoMemory, Stop};
+use crate::room::TaskRoom;
+use css_base::{Buffer, Line, NoMemory, Rule, Stop};
 use css_record::TaskRecord;
 use css_vm::{Code, Function, Machine, Space, TaskShape};
 use std::alloc::Global;
@@ -23,8 +24,7 @@ pub enum SharedEnd {
 }
 
 /// Runs a task by itself over a copy of its windows, which have the inputs' bytes where they are read, and zeros else; with an empty
-/// stack at its stack place and so many units. So far each window is one that is read and written, of one row. `NoMemory` where
-/// there is no memory for the run.
+/// stack at its stack place and so many units. `NoMemory` where there is no memory for the run.
 pub fn run_shared(
     alloc: Global,
     code: &Code,
@@ -34,23 +34,41 @@ pub fn run_shared(
 ) -> Result<SharedEnd, NoMemory>
     requires sound { (plans : List (List Spot)) × IsSound (code_of code.now) plans }
     requires fits { FitsCode (code_of code.now) task.now }
-    requires plain { IsPlainTask (code_of code.now) task.now }
     requires inputs { InputsOf (code_of code.now) task.now inputs.now }
     ensures { IfOk result (λ end. IsAlone (code_of code.now) task.now inputs.now units (end_of end)) }
 {
     let function = function_of(code, task.function);
     let parts = &shape_of(function).args;
     let arguments = arguments_of(alloc, parts, &task.scalars, &task.windows)?;
-    let mut space = TaskSpace::new(alloc, &task.windows, inputs, task.stack_place)?;
+    let mut space = TaskRoom::new(alloc, parts, &task.windows, inputs, task.stack_place)?;
     let mut machine = Machine::new(alloc, code, task.function, &arguments, task.line)?;
     let mut left = units;
     let end = run_body(&mut machine, alloc, code, &mut space, &mut left)?;
     match end {
-        BodyEnd::Returned(line) => match space.pop_frame(function.frame) {
-            Ok(()) => Ok(SharedEnd::Outs(space.into_buffers(alloc)?)),
-            Err(stop) => Ok(SharedEnd::Stopped { stop, line }),
-        },
+        BodyEnd::Returned(line) => returned(alloc, space, function.frame, line),
         BodyEnd::Stopped(stop, line) => Ok(SharedEnd::Stopped { stop, line }),
+    }
+}
+
+// What comes of a task whose body has returned in a line, with a frame of so many bytes.
+fn returned(
+    alloc: Global,
+    mut space: TaskRoom,
+    frame: u32,
+    line: Line,
+) -> Result<SharedEnd, NoMemory>
+    ensures { IfOk result (λ end. IsReturned space frame line (end_of end)) }
+{
+    match space.pop_frame(frame) {
+        Ok(()) => {
+            if space.is_written() {
+                Ok(SharedEnd::Outs(space.into_buffers(alloc)?))
+            } else {
+                let stop = Stop::Rule(Rule::LeftUnwritten);
+                Ok(SharedEnd::Stopped { stop, line })
+            }
+        }
+        Err(stop) => Ok(SharedEnd::Stopped { stop, line }),
     }
 }
 

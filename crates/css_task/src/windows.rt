@@ -1,18 +1,27 @@
 //! The windows of a task.
-ghost use Rattle.std.specs.Prelude.{◌≡◌, ◌≤◌, ◌<◌, ◌+◌, ◌||◌, true, drop, length, map, slice_get, is_some, Some, IfSome};
+ghost use Rattle.std.specs.Prelude.{◌≡◌, ◌≤◌, ◌<◌, ◌+◌, ◌||◌, true, drop, length, map, slice_get, is_some, Some, IfSome, IfOk};
 ghost use Rattle.std.specs.List.{list_any};
 ghost use Rattle.css_semantics.specs.Rules.{is_in_window};
 ghost use Rattle.css_semantics.specs.Tasks.{writes};
 ghost use Rattle.css_task.specs.Placing.{uses_of, ArePlaced, IsHit};
 
 use crate::placed::Placed;
-use css_base::Direction;
+use css_base::{Direction, NoMemory};
+use std::alloc::Global;
 
-/// Windows in order of parameters, and the number of the one that was hit last.
+/// A window's base, and its number.
+#[derive(Clone, Copy)]
+pub(crate) struct Based {
+    base: u32,
+    number: usize,
+}
+
+/// Windows in order of parameters, their bases in rising order, and the number of the one that was hit last.
 #[derive(Drop)]
 pub(crate) struct Windows {
     pub(crate) all: Vec<Placed>,
-    pub(crate) last: usize,
+    by_base: Vec<Based>,
+    last: usize,
 }
 
 /// Where an access is: the offset of its first byte among the bytes of all windows, and what the task does with its window.
@@ -36,8 +45,28 @@ impl Hit {
 }
 
 impl Windows {
+    /// These windows, with their bases sorted.
+    pub(crate) fn new(alloc: Global, all: Vec<Placed>) -> Result<Windows, NoMemory>
+        ensures { IfOk result (λ w. w.all ≡ all) }
+    {
+        let mut by_base = Vec::new(alloc);
+        for number in 0..all.len() {
+            by_base.push(Based {
+                base: all[number].window.base,
+                number,
+            })?;
+        }
+        by_base.sort_unstable_by_key(|w| w.base);
+        Ok(Windows {
+            all,
+            by_base,
+            last: 0,
+        })
+    }
+
     /// Where so many bytes from an address are, if they are wholly in one row of one of the windows. Tries the one that was hit last
-    /// first.
+    /// first, then the one with the greatest base up to the address, which has them where the windows don't stand between one
+    /// another's rows, and then all.
     pub(crate) fn find(&mut self, address: u32, count: usize) -> Option<Hit>
         requires placed { ArePlaced self.old.all.items }
         requires some { 1 ≤ count }
@@ -51,6 +80,13 @@ impl Windows {
                 return Some(hit);
             }
         }
+        let near = self.near(address);
+        if near < self.all.len() {
+            if let Some(hit) = self.hit(near, address, count) {
+                self.last = near;
+                return Some(hit);
+            }
+        }
         for number in 0..self.all.len() {
             if let Some(hit) = self.hit(number, address, count) {
                 self.last = number;
@@ -58,6 +94,15 @@ impl Windows {
             }
         }
         None
+    }
+
+    // The number of the window with the greatest base up to an address, by a binary search. No answer depends on it, only the time.
+    fn near(&self, address: u32) -> usize {
+        let behind = self.by_base.partition_point(|w| w.base <= address);
+        if behind == 0 {
+            return 0;
+        }
+        self.by_base[behind - 1].number
     }
 
     // Where they are in the window of a number.

@@ -10,7 +10,7 @@ use Rattle.css_record.specs.Windows.{window}
 use Rattle.css_semantics.specs.Rules.{room_of}
 use Rattle.css_semantics.specs.Tasks.{Use, window_length, reads, writes}
 use Rattle.css_vm.specs.Code.{Routine, Shape, Code}
-use Rattle.css_task.specs.Alone.{TaskOf, IsPlainTask, Halted}
+use Rattle.css_task.specs.Alone.{TaskOf, Halted}
 use Rattle.css_yard.specs.declared.answer.YardAnswer.{YardAnswer}
 use Rattle.css_yard.specs.declared.answer.YardAnswer.TheVariants as answers
 use Rattle.css_yard.specs.Values.{Submit, Ends, IsFirstStop}
@@ -92,11 +92,10 @@ pub record AreInputs (r : TaskRecord) (reading : List Use) (a b : VersionName) (
 abbrev pub reading : List Use → List Use
 reading us = filter (λ u. reads u.direction) us
 
--- A record may be submitted: it is one of the code, so far of a plain task, its windows have room in the local store, it has the next
--- number, and its inputs are there and fit.
+-- A record may be submitted: it is one of the code, its windows have room in the local store, it has the next number, and its inputs
+-- are there and fit.
 pub record MaySubmit (code : Code) (limits : Limits) (submits : List Submit) (r : TaskRecord) (given : List (List ℕ)) : Type 0 where
   pub fits : FitsCode code r
-  pub plain : IsPlainTask code r
   pub room : room_of (map window r.windows.items) ≤ limits.local_store
   pub few : length submits < 4096
   pub next : (last : Submit) (before : List Submit) → submits ≡ before ++ last ∷ [] → r.number ≡ last.rec.number + 1

@@ -2,9 +2,9 @@ use Rattle.std.proofs.Common.{List, sym, subst, ◌∙◌}
 use Rattle.css_vm.specs.Code.{Code}
 use Rattle.css_vm.specs.Soundness.{Spot, IsSound}
 use Rattle.css_record.specs.Records.{FitsCode}
-use Rattle.css_task.specs.Alone.{IsPlainTask, InputsOf}
+use Rattle.css_task.specs.Alone.{InputsOf}
 use Rattle.css_run_tests.proofs.Sound.{adding_sound}
-use Rattle.css_run_tests.proofs.Calls.{fits_code, is_plain, inputs_of_call}
+use Rattle.css_run_tests.proofs.Calls.{fits_code, inputs_of_call}
 use Rattle.css_run_tests.proofs.task.end.Goals as goal
 
 pub run_shared-requires-clause-sound : goal.run_shared-requires-clause-sound
@@ -12,9 +12,6 @@ run_shared-requires-clause-sound c = subst (λ (code : Code). (plans : List (Lis
 
 pub run_shared-requires-clause-fits : goal.run_shared-requires-clause-fits
 run_shared-requires-clause-fits c = subst (λ (code : Code). FitsCode code c.in_ok-task.task) (sym c.in_ok-code.ensures) (fits_code _ c.in_ok-task.task _ _ (c.in_ok-task.ensures {u = tt}))
-
-pub run_shared-requires-clause-plain : goal.run_shared-requires-clause-plain
-run_shared-requires-clause-plain c = subst (λ (code : Code). IsPlainTask code c.in_ok-task.task) (sym c.in_ok-code.ensures) (is_plain _ c.in_ok-task.task _ _ (c.in_ok-task.ensures {u = tt}))
 
 pub run_shared-requires-clause-inputs : goal.run_shared-requires-clause-inputs
 run_shared-requires-clause-inputs c =

@@ -1,6 +1,6 @@
 use Rattle.std.proofs.Common.{◌∙◌, ap, subst}
 use Rattle.css_semantics.specs.Units.{with_units}
-use Rattle.css_semantics.specs.TaskSpaces.{place_of}
+use Rattle.css_task.specs.Cells.{kept_place}
 use Rattle.css_vm.specs.declared.code.MarkKind.{MarkKind}
 use Rattle.css_vm.specs.declared.machine.Event.TheVariants as events
 use Rattle.css_vm.specs.Code.{code_of}
@@ -83,6 +83,6 @@ loop-preserved c =
     (record {
       due = c.answer.ensures.due;
       fits = answered_fits code c.loop.machine.state new.self.state c.loop.units new.units 0 leaves.1 c.loop.invariant.fits;
-      stacked = answered_stacked code (place_of new.space) 0 new.self.state leaves.2;
+      stacked = answered_stacked code (kept_place new.space) 0 new.self.state leaves.2;
       goes_on = goes_on code old start c.in-Mark.field-1 new.self.state (with_units new.space new.units) asked;
     })

@@ -1,12 +1,17 @@
-use Rattle.std.proofs.Common.{length, ap, sym, ◌∙◌, arith}
+use Rattle.std.proofs.Common.{◌≡◌, length, ap, sym, ◌∙◌, arith}
+use Rattle.std.specs.List.{list_any}
 use Rattle.css_semantics.specs.Dialogue.{Store}
+use Rattle.css_semantics.specs.Tasks.{Use}
+use Rattle.css_semantics.specs.Rules.{is_in_window}
+use Rattle.css_vm.proofs.Bytes.{length-big_endian_bytes}
+use Rattle.css_task.specs.Placing.{uses_of}
 use Rattle.std.proofs.lemmas.List.{with_items_is}
 use Rattle.css_semantics.specs.Memory.{big_endian_bytes, overlaid}
 use Rattle.css_vm.specs.Spaces.{bytes_of}
 use Rattle.css_task.specs.Cells.{kept_reply, kept_after}
 use Rattle.css_task.proofs.Spaces.{refused}
 use Rattle.css_task.proofs.Hits.{hit_within}
-use Rattle.css_task.proofs.RoomSteps.{stores_stack, stored_stack, number_fixed, number_says, number_stored, some_bytes}
+use Rattle.css_task.proofs.RoomSteps.{store_refused, store_outside, stores_stack, stored_stack, number_fixed, number_says, number_stored, some_bytes}
 use Rattle.css_task.proofs.room.TaskRoomSpace.store.Goals as goal
 
 pub invariant_of-self : goal.invariant_of-self
@@ -88,3 +93,13 @@ returns-clause-learns c =
     c.write_number.new.bytes c.remove_all.new.self.words.items (c.write_number.ensures ∙ ap (λ bytes. overlaid 0 bytes c.in-Some.hit.offset new) c.deref_mut.ensures.value)
     c.remove_all.ensures.room c.remove_all.ensures.has).0
     ∙ ap (λ k. kept_after k (Store c.args.address new)) c.self.view_is)
+
+pub returns-in_default-find-clause-refuses : goal.returns-in_default-find-clause-refuses
+returns-in_default-find-clause-refuses c =
+    let m = c.self.inside in
+    let new = big_endian_bytes (bytes_of c.args.width) c.args.value in
+    let long : length new ≡ c.byte_count-count.result = length-big_endian_bytes (bytes_of c.args.width) c.args.value ∙ sym c.byte_count-count.ensures in
+    let out = store_refused m.windows.all.items m.stack m.bytes.items m.unwritten.words.items c.self.invariant c.args.address new c.in_default.field-0 c.in_default.ensures.refuses in
+    let none = ap (λ n. list_any (λ (u : Use). is_in_window u.window c.args.address n) (uses_of m.windows.all.items)) long ∙ c.in_default-find.ensures.has in
+    refused _ _ (ap (λ k. kept_reply k (Store c.args.address new)) (sym c.self.view_is)
+    ∙ store_outside m.windows.all.items m.stack m.bytes.items m.unwritten.words.items c.self.invariant c.args.address new out none)

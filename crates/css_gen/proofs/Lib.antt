@@ -1,0 +1,9 @@
+pub mod Statements
+pub mod Values
+pub mod Functions
+pub mod Programs
+pub mod Bodies
+pub mod Finding
+pub mod Correct
+pub mod Confined
+pub mod Whole

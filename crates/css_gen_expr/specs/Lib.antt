@@ -1,0 +1,8 @@
+pub mod Ranges
+pub mod Operators
+pub mod Expressions
+pub mod Tests
+pub mod Calls
+pub mod Meaning
+pub mod Standing
+pub mod Inner

@@ -1,0 +1,3 @@
+pub mod Rams
+pub mod Codes
+pub mod Places
