@@ -3,13 +3,13 @@ use Rattle.std.proofs.Common.{◌≡◌, ℕ, List, length, map, filter, Some, A
 use Rattle.css_base.specs.declared.limits.Limits.{Limits}
 use Rattle.css_record.specs.declared.task_record.TaskRecord.{TaskRecord}
 use Rattle.css_record.specs.Windows.{window}
-use Rattle.css_record.specs.Records.{FitsCode, InputsFit, AllAgree, AreGiven, IsClearOfStack, IsPlainUse, uses, uses_by, arguments, arguments_by}
+use Rattle.css_record.specs.Records.{FitsCode, InputsFit, AllAgree, AreGiven, IsClearOfStack, uses, uses_by, arguments, arguments_by}
 use Rattle.css_semantics.specs.Tasks.{Use, reads}
 use Rattle.css_semantics.specs.Dialogue.{Tape, Goes, Stops, Stopped}
 use Rattle.css_semantics.specs.Alone.{alone_world, outs_after}
 use Rattle.css_vm.specs.Code.{Routine, Shape, Code}
 use Rattle.css_vm.specs.Machine.{alone}
-use Rattle.css_task.specs.Alone.{TaskOf, IsPlainTask, InputsOf, End, Outs, Halted, ComesTo, IsAlone}
+use Rattle.css_task.specs.Alone.{TaskOf, InputsOf, End, Outs, Halted, ComesTo, IsAlone}
 use Rattle.css_board.specs.Jobs.{IsCopy}
 
 -- what a task comes to, by the parts of its record
@@ -59,9 +59,6 @@ module _ (code : Code) (r c : TaskRecord) (copy : IsCopy r c) where
         (subst (λ us. All (IsClearOfStack r.stack_place) us) (sym (uses_copy fits.shape)) fits.clear);
     inputs = ap length copy.inputs ∙ (fits.inputs ∙ ap (λ us. length (filter (λ (u : Use). reads u.direction) us)) (sym (uses_copy fits.shape)));
   }
-
-  pub plain_copy : IsPlainTask code r → IsPlainTask code c
-  plain_copy plain f s of = subst (All IsPlainUse) (sym (uses_copy s)) (plain f s (task_back f s of))
 
   pub inputs_copy : (inputs : List (List ℕ)) → InputsOf code r inputs → InputsOf code c inputs
   inputs_copy inputs fit f s of = subst (λ us. InputsFit us inputs) (sym (uses_copy s)) (fit f s (task_back f s of))

@@ -26,7 +26,7 @@ use Rattle.css_board.specs.declared.job.JobInput.TheVariants as inputs
 use Rattle.css_board.specs.Jobs as jobs
 use Rattle.css_board.specs.Runs.{AreRead, JobsRemain, JobsAreRun}
 use Rattle.css_board.proofs.Jobs.{may_be, made_found, made_before}
-use Rattle.css_board.proofs.Copies.{fits_copy, plain_copy, inputs_copy, alone_copy}
+use Rattle.css_board.proofs.Copies.{fits_copy, inputs_copy, alone_copy}
 
 -- ---- what is found, by its place
 
@@ -135,7 +135,6 @@ module _ (b : Terms) where
       let found = all_read b log before s.given s.rec.inputs.items job.inputs.items values is.inputs read in
       record {
         fits = fits_copy b.code s.rec job.rec is.rec may.fits;
-        plain = plain_copy b.code s.rec job.rec is.rec may.plain;
         inputs = inputs_copy b.code s.rec job.rec is.rec values (inputs_fit b log legal s has values found);
         ends = λ end alone. record {
           submit = s;

@@ -2,7 +2,7 @@
 use Rattle.std.specs.Prelude.{◌≡◌, ◌++◌, ℕ, List, [], ◌∷◌}
 use Rattle.css_record.specs.declared.version.VersionName.TheVariants as names
 use Rattle.css_record.specs.Records.{FitsCode}
-use Rattle.css_task.specs.Alone.{End, IsAlone, IsPlainTask, InputsOf}
+use Rattle.css_task.specs.Alone.{End, IsAlone, InputsOf}
 use Rattle.css_seen.specs.Facts.{Remains}
 use Rattle.css_history.specs.declared.entry.Entry.{Entry}
 use Rattle.css_history.specs.Terms.{Terms}
@@ -28,7 +28,6 @@ AreRead log (input ∷ inputs) [] = ⊥
 -- A job may be run over these inputs, and what it comes to is its task's end.
 pub record IsRun (b : Terms) (log : List Entry) (n : ℕ) (job : Job) (values : List (List ℕ)) : Type 0 where
   pub fits : FitsCode b.code job.rec
-  pub plain : IsPlainTask b.code job.rec
   pub inputs : InputsOf b.code job.rec values
   pub ends : (end : End) → IsAlone b.code job.rec values b.limits.task_units end → IsOfBody b log n end
 
