@@ -495,7 +495,7 @@ static CROSSINGS: [Crossing; 3] = [
     },
 ];
 
-fn crossing<L: Ledger>(table: &ObjectTable, base: u32, steps: &mut Steps<L>) -> u32 {
+fn base_crossed<L: Ledger>(table: &ObjectTable, base: u32, steps: &mut Steps<L>) -> u32 {
     let window = Window {
         base,
         rows: 8,
@@ -519,7 +519,7 @@ fn blocks<L: Ledger>(
         check(
             rt,
             "crosses",
-            crossing(table, row.base, steps) == row.crosses,
+            base_crossed(table, row.base, steps) == row.crosses,
         );
     }
     let whole = stands(table, Window::plain(8_192, 256), steps);

@@ -11,55 +11,14 @@ use std::process::Abort;
 use std::sync::ledger::{Blank, Ledger};
 use std::test::Fail;
 
-// So many ints that are given for a pointer; none where the dimension was stopped.
-struct Given {
-    base: u32,
-    ints: Option<i64>,
-    direction: Direction,
-}
-
-// A call of two pointers over a local store of so many bytes, and the rule that it breaks.
+// A call of two pointers to int over a local store of so many bytes, and the rule that it breaks. For each pointer so many ints are
+// given; none where the dimension was stopped.
 struct Call {
-    first: Given,
-    second: Given,
+    bases: (u32, u32),
+    ints: (Option<i64>, Option<i64>),
+    directions: (Direction, Direction),
     local_store: u32,
     rule: Option<Rule>,
-}
-
-// So many ints that are read at a base.
-const fn read(base: u32, ints: i64) -> Given {
-    Given {
-        base,
-        ints: Some(ints),
-        direction: Direction::In,
-    }
-}
-
-// So many that are written.
-const fn written(base: u32, ints: i64) -> Given {
-    Given {
-        base,
-        ints: Some(ints),
-        direction: Direction::Out,
-    }
-}
-
-// A pointer of which the dimension was stopped.
-const fn stopped(base: u32) -> Given {
-    Given {
-        base,
-        ints: None,
-        direction: Direction::In,
-    }
-}
-
-const fn call(first: Given, second: Given, local_store: u32, rule: Option<Rule>) -> Call {
-    Call {
-        first,
-        second,
-        local_store,
-        rule,
-    }
 }
 
 const STORE: u32 = 262_144;
@@ -77,49 +36,174 @@ const ALIASED: Option<Rule> = Some(Rule::AliasedArguments);
 // Globals stand from 4,096 to 65,536, and nothing is pending. 16,384 bytes of a local store are no window's, and each window takes a
 // multiple of 128.
 static CALLS: [Call; 20] = [
-    call(read(4_096, 1), read(8_192, 1), STORE, None),
+    Call {
+        bases: (4_096, 8_192),
+        ints: (Some(1), Some(1)),
+        directions: (Direction::In, Direction::In),
+        local_store: STORE,
+        rule: None,
+    },
     // A dimension that was stopped comes before all else, and so does one that is none.
-    call(stopped(4_096), read(8_192, 1), STORE, DIMENSION),
-    call(read(4_096, 1), stopped(8_192), STORE, DIMENSION),
-    call(read(0, 1), stopped(0), 0, DIMENSION),
-    call(read(4_096, 0), read(8_192, 1), STORE, DIMENSION),
-    call(read(4_096, -1), read(8_192, 1), STORE, DIMENSION),
+    Call {
+        bases: (4_096, 8_192),
+        ints: (None, Some(1)),
+        directions: (Direction::In, Direction::In),
+        local_store: STORE,
+        rule: DIMENSION,
+    },
+    Call {
+        bases: (4_096, 8_192),
+        ints: (Some(1), None),
+        directions: (Direction::In, Direction::In),
+        local_store: STORE,
+        rule: DIMENSION,
+    },
+    Call {
+        bases: (0, 0),
+        ints: (Some(1), None),
+        directions: (Direction::In, Direction::In),
+        local_store: 0,
+        rule: DIMENSION,
+    },
+    Call {
+        bases: (4_096, 8_192),
+        ints: (Some(0), Some(1)),
+        directions: (Direction::In, Direction::In),
+        local_store: STORE,
+        rule: DIMENSION,
+    },
+    Call {
+        bases: (4_096, 8_192),
+        ints: (Some(-1), Some(1)),
+        directions: (Direction::In, Direction::In),
+        local_store: STORE,
+        rule: DIMENSION,
+    },
     // 2^28 ints are 2^30 bytes, and one more is too many; of those that are few enough the room is judged before they are found dead.
-    call(read(4_096, 268_435_457), read(8_192, 1), STORE, DIMENSION),
-    call(read(4_096, 268_435_456), read(8_192, 1), STORE, TOO_LARGE),
+    Call {
+        bases: (4_096, 8_192),
+        ints: (Some(268_435_457), Some(1)),
+        directions: (Direction::In, Direction::In),
+        local_store: STORE,
+        rule: DIMENSION,
+    },
+    Call {
+        bases: (4_096, 8_192),
+        ints: (Some(268_435_456), Some(1)),
+        directions: (Direction::In, Direction::In),
+        local_store: STORE,
+        rule: TOO_LARGE,
+    },
     // 32 ints take 128 bytes, and one int does too.
-    call(read(4_096, 32), read(8_192, 1), 16_640, None),
-    call(read(4_096, 32), read(8_192, 1), 16_639, TOO_LARGE),
-    call(read(4_096, 33), read(8_192, 1), 16_640, TOO_LARGE),
+    Call {
+        bases: (4_096, 8_192),
+        ints: (Some(32), Some(1)),
+        directions: (Direction::In, Direction::In),
+        local_store: 16_640,
+        rule: None,
+    },
+    Call {
+        bases: (4_096, 8_192),
+        ints: (Some(32), Some(1)),
+        directions: (Direction::In, Direction::In),
+        local_store: 16_639,
+        rule: TOO_LARGE,
+    },
+    Call {
+        bases: (4_096, 8_192),
+        ints: (Some(33), Some(1)),
+        directions: (Direction::In, Direction::In),
+        local_store: 16_640,
+        rule: TOO_LARGE,
+    },
     // One window that stands twice takes its room once.
-    call(read(4_096, 32), read(4_096, 32), 16_512, None),
-    call(read(4_096, 32), read(4_096, 32), 16_511, TOO_LARGE),
+    Call {
+        bases: (4_096, 4_096),
+        ints: (Some(32), Some(32)),
+        directions: (Direction::In, Direction::In),
+        local_store: 16_512,
+        rule: None,
+    },
+    Call {
+        bases: (4_096, 4_096),
+        ints: (Some(32), Some(32)),
+        directions: (Direction::In, Direction::In),
+        local_store: 16_511,
+        rule: TOO_LARGE,
+    },
     // The last int of the globals, bytes behind them, and bytes before them.
-    call(read(65_532, 1), read(8_192, 1), STORE, None),
-    call(read(65_533, 1), read(8_192, 1), STORE, DEAD),
-    call(read(8_192, 1), read(4_095, 1), STORE, DEAD),
+    Call {
+        bases: (65_532, 8_192),
+        ints: (Some(1), Some(1)),
+        directions: (Direction::In, Direction::In),
+        local_store: STORE,
+        rule: None,
+    },
+    Call {
+        bases: (65_533, 8_192),
+        ints: (Some(1), Some(1)),
+        directions: (Direction::In, Direction::In),
+        local_store: STORE,
+        rule: DEAD,
+    },
+    Call {
+        bases: (8_192, 4_095),
+        ints: (Some(1), Some(1)),
+        directions: (Direction::In, Direction::In),
+        local_store: STORE,
+        rule: DEAD,
+    },
     // Two windows of a call that share bytes are one, or the call breaks a rule.
-    call(read(4_096, 2), read(4_100, 1), STORE, PARTLY),
-    call(read(4_096, 2), read(4_096, 1), STORE, PARTLY),
+    Call {
+        bases: (4_096, 4_100),
+        ints: (Some(2), Some(1)),
+        directions: (Direction::In, Direction::In),
+        local_store: STORE,
+        rule: PARTLY,
+    },
+    Call {
+        bases: (4_096, 4_096),
+        ints: (Some(2), Some(1)),
+        directions: (Direction::In, Direction::In),
+        local_store: STORE,
+        rule: PARTLY,
+    },
     // One window stands twice, and is written.
-    call(read(4_096, 1), written(4_096, 1), STORE, ALIASED),
-    call(written(4_096, 1), written(4_096, 1), STORE, ALIASED),
+    Call {
+        bases: (4_096, 4_096),
+        ints: (Some(1), Some(1)),
+        directions: (Direction::In, Direction::Out),
+        local_store: STORE,
+        rule: ALIASED,
+    },
+    Call {
+        bases: (4_096, 4_096),
+        ints: (Some(1), Some(1)),
+        directions: (Direction::Out, Direction::Out),
+        local_store: STORE,
+        rule: ALIASED,
+    },
 ];
 
 // What is given for a pointer to int.
-fn argument(alloc: Global, given: &Given) -> Result<Argument, NoMemory>
+fn argument(
+    alloc: Global,
+    base: u32,
+    ints: Option<i64>,
+    direction: Direction,
+) -> Result<Argument, NoMemory>
     ensures { IfOk result (λ a. a.element ≡ 4) }
 {
-    let dims = match given.ints {
-        Some(ints) => Dims::Values(Vec::from_slice(alloc, &[ints])?),
+    let dims = match ints {
+        Some(count) => Dims::Values(Vec::from_slice(alloc, &[count])?),
         None => Dims::Stopped,
     };
     Ok(Argument {
-        base: given.base,
+        base,
         element: 4,
         dims,
         strided: false,
-        direction: given.direction,
+        direction,
     })
 }
 
@@ -130,9 +214,11 @@ fn broken<L: Ledger>(
     call: &Call,
     steps: &mut Steps<L>,
 ) -> Result<Option<Rule>, NoMemory> {
+    let first = argument(alloc, call.bases.0, call.ints.0, call.directions.0)?;
+    let second = argument(alloc, call.bases.1, call.ints.1, call.directions.1)?;
     let mut arguments = Vec::new(alloc);
-    arguments.push(argument(alloc, &call.first)?)?;
-    arguments.push(argument(alloc, &call.second)?)?;
+    arguments.push(first)?;
+    arguments.push(second)?;
     match table.judge(&arguments, &LAYOUT, call.local_store, steps) {
         Ok(()) => Ok(None),
         Err(rule) => Ok(Some(rule)),
