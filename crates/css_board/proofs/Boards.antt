@@ -39,7 +39,7 @@ use Rattle.css_history.specs.Seats.{IsFirst}
 use Rattle.css_board.specs.declared.cell.Cell.{Cell}
 use Rattle.css_board.specs.declared.post.Post.{Post}
 use Rattle.css_board.specs.Graphs.{state_of, producers_of, task_of, tasks_of, graph_of}
-use Rattle.css_board.specs.Cells.{told_by, with_end, AreCells, IsFront, IsFinishedCell, IsFoundMade, IsStopOf, AreKept}
+use Rattle.css_board.specs.Cells.{told_by, IsFinish, IsEndBy, with_end, AreCells, IsFront, IsFinishedCell, IsFoundMade, IsStopOf, AreKept}
 use Rattle.css_board.specs.Posts.{one_if_not, coming_of, coming, has_held, IsPost, ArePosts}
 use Rattle.css_board.specs.Boards.{IsBoard, AreAllFinished}
 use Rattle.css_board.proofs.Graphs.{graph_named, graph_same, graph_submit, above_all, producers_added, out_number, all_out}
@@ -81,6 +81,72 @@ board_new f posts g room limits graph_is many each few enough = record {
   within = omega (arith, few, enough);
   small = omega (arith, few, limits.workers.1);
 }
+
+-- what an entry says that tells an end
+pub record IsTold (log : List Entry) (e : Entry) (w n : ℕ) : Type 0 where
+  pub end : End
+  pub by : maker e ≡ w + 1
+  pub not_close : closes e ≡ false
+  pub fed : hungry e ≡ None
+  pub none : submitted e ≡ []
+  pub names : named e ≡ n ∷ []
+  pub told : told_by e ≡ Some end
+  pub comes_is : comes e ≡ Ended end
+  pub holds : held w (log ++ e ∷ []) ≡ without n (held w log)
+
+let_go_by : (log : List Entry) (v m w n : ℕ) → v ≡ w → m ≡ n → cond (v == w) (without m (held w log)) (held w log) ≡ without n (held w log)
+let_go_by log v m w n same is = ap (λ x. cond x (without m (held w log)) (held w log)) (eq-eqb v w same) ∙ ap (λ k. without k (held w log)) is
+
+pub told_end : (log : List Entry) (e : Entry) (w n : ℕ) → IsEndBy w n e → IsTold log e w n
+told_end log (entries.Submit rec given) w n is = absurd is
+told_end log (entries.Take v numbers) w n is = absurd is
+told_end log (entries.Finish v m outs) w n is = record {
+  end = Outs outs;
+  by = ap (λ x. x + 1) is.0;
+  not_close = refl;
+  fed = refl;
+  none = refl;
+  names = ap (λ k. k ∷ []) is.1;
+  told = refl;
+  comes_is = refl;
+  holds = held_more w log (entries.Finish v m outs) ∙ let_go_by log v m w n is.0 is.1;
+}
+told_end log (entries.Stop v m stop line) w n is = record {
+  end = Halted stop line;
+  by = ap (λ x. x + 1) is.0;
+  not_close = refl;
+  fed = refl;
+  none = refl;
+  names = ap (λ k. k ∷ []) is.1;
+  told = refl;
+  comes_is = refl;
+  holds = held_more w log (entries.Stop v m stop line) ∙ let_go_by log v m w n is.0 is.1;
+}
+told_end log (entries.Back v numbers) w n is = absurd is
+told_end log (entries.Starved v) w n is = absurd is
+told_end log entries.Close w n is = absurd is
+
+-- a task that came to an end, and wasn't finished, stopped
+pub not_finished_stops : (e : Entry) (w n : ℕ) → IsEndBy w n e → ¬ IsFinish (Some e) → state_of (comes e) ≡ states.Stopped
+not_finished_stops (entries.Submit rec given) w n is not = absurd is
+not_finished_stops (entries.Take v numbers) w n is not = absurd is
+not_finished_stops (entries.Finish v m outs) w n is not = absurd (not tt)
+not_finished_stops (entries.Stop v m stop line) w n is not = refl
+not_finished_stops (entries.Back v numbers) w n is not = absurd is
+not_finished_stops (entries.Starved v) w n is not = absurd is
+not_finished_stops entries.Close w n is not = absurd is
+
+pub finish_finishes : (e : Entry) → IsFinish (Some e) → state_of (comes e) ≡ states.Finished
+finish_finishes (entries.Submit rec given) is = absurd is
+finish_finishes (entries.Take v numbers) is = absurd is
+finish_finishes (entries.Finish v m outs) is = refl
+finish_finishes (entries.Stop v m stop line) is = absurd is
+finish_finishes (entries.Back v numbers) is = absurd is
+finish_finishes (entries.Starved v) is = absurd is
+finish_finishes entries.Close is = absurd is
+
+ended_by : {log : List Entry} (v m w n : ℕ) → (v ≡ w) × (m ≡ n) → MayEnd log v m → MayEnd log w n
+ended_by {log = log} v m w n (same, is) may = subst (λ (x : ℕ). MayEnd log x n) same (subst (λ (x : ℕ). MayEnd log v x) is may)
 
 module _ (f : Fixed) (log : List Entry) (cells : List Cell) (posts : List Post) (g : TaskGraph) (front : ℕ) (closed starved : Bool) (room : ℕ) (is : IsBoard f log cells posts g front closed starved room) where
   abbrev b : Terms
@@ -263,38 +329,34 @@ module _ (f : Fixed) (log : List Entry) (cells : List Cell) (posts : List Post) 
       (is.starved_is ∙ sym (same_any (λ x. is_some_worker (hungry x)) log e (ap is_some_worker fed)))
       (came ∙ (ap (λ (x : TaskGraph). where_come x (state_of (comes e)) (n ∷ [])) is.graph_is ∙ (ap (λ ns. where_come (graph_of f.limits.workers log) (state_of (comes e)) ns) (sym names) ∙ sym (graph_named f.limits.workers log e none))))
 
-  -- the cells behind an end
-  pub cells_finished : (w n k : ℕ) (outs : List (List ℕ)) → MayEnd log w n → IsOfBody b log n (Outs outs) → n ≡ f.first + k → AreCells f.first (log ++ entries.Finish w n outs ∷ []) (with_end cells k (length log))
-  cells_finished w n k outs may_end own n_is =
-      let e : Entry = entries.Finish w n outs in
+  -- the task of an entry that tells an end
+  pub end_of_task : (e : Entry) (w n : ℕ) → IsEndBy w n e → MayFollow b log e → MayEnd log w n
+  end_of_task (entries.Submit rec given) w n end may = absurd end
+  end_of_task (entries.Take v numbers) w n end may = absurd end
+  end_of_task (entries.Finish v m outs) w n end may = ended_by v m w n end may.follows
+  end_of_task (entries.Stop v m stop line) w n end may = ended_by v m w n end may.follows
+  end_of_task (entries.Back v numbers) w n end may = absurd end
+  end_of_task (entries.Starved v) w n end may = absurd end
+  end_of_task entries.Close w n end may = absurd end
+
+  pub board_end : (e : Entry) (w n k : ℕ) (p q : Post) (g' : TaskGraph) (front' : ℕ) (h : List Entry) (cs : List Cell) → IsEndBy w n e → MayFollow b log e → n ≡ f.first + k → slice_get posts w ≡ Some p
+      → q.held.items ≡ without n p.held.items → q.starved ≡ p.starved → g' ≡ where_come g (state_of (comes e)) (n ∷ []) → h ≡ log ++ e ∷ [] → cs ≡ with_end cells k (length log) → front ≤ front' → front' ≤ length cs
+      → ((j : ℕ) (c : Cell) → front ≤ j → j < front' → slice_get cs j ≡ Some c → IsFinishedCell h c)
+      → ((c : Cell) → slice_get cs front' ≡ Some c → ¬ IsFinishedCell h c)
+      → IsBoard f (log ++ e ∷ []) (with_end cells k (length log)) (set posts w q) g' front' closed starved room
+  board_end e w n k p q g' front' h cs end may n_is at left same came h_is cs_is more within finished unfinished =
+      let may_end = end_of_task e w n end may in
+      let told = told_end log e w n end in
       let place = place_in w n may_end in
-      cells_ended b log e is.legal (record { follows = may_end; own = own }) cells k n (Outs outs) refl refl refl refl n_is (omega (arith, place.1, place.2, n_is)) is.cells_are
-
-  pub board_finish : (w n k : ℕ) (outs : List (List ℕ)) (p q : Post) (g' : TaskGraph) (front' : ℕ) → MayEnd log w n → IsOfBody b log n (Outs outs) → n ≡ f.first + k → slice_get posts w ≡ Some p → q.held.items ≡ without n p.held.items
-      → q.starved ≡ p.starved → g' ≡ where_come g (state_of (comes (entries.Finish w n outs))) (n ∷ []) → front ≤ front' → front' ≤ length (with_end cells k (length log))
-      → ((j : ℕ) (c : Cell) → front ≤ j → j < front' → slice_get (with_end cells k (length log)) j ≡ Some c → IsFinishedCell (log ++ entries.Finish w n outs ∷ []) c)
-      → ((c : Cell) → slice_get (with_end cells k (length log)) front' ≡ Some c → ¬ IsFinishedCell (log ++ entries.Finish w n outs ∷ []) c)
-      → IsBoard f (log ++ entries.Finish w n outs ∷ []) (with_end cells k (length log)) (set posts w q) g' front' closed starved room
-  board_finish w n k outs p q g' front' may_end own n_is at left same came more within finished unfinished =
-      let e : Entry = entries.Finish w n outs in
-      let may : MayFollow b log e = record { follows = may_end; own = own } in
-      board_ended e w n k (Outs outs) p q g' front' may may_end refl refl refl refl refl refl refl (held_more w log e ∙ ap (λ x. cond x (without n (held w log)) (held w log)) (eq-eqb w w refl)) n_is at left same came
-      (front_moved b log e is.legal may front front' (with_end cells k (length log)) refl (cells_finished w n k outs may_end own n_is) is.front_is more within finished unfinished)
-
-  stop_finishes_none : (w n : ℕ) (stop : Stop) (line : ℕ) (m : ℕ) → IsFinished m (log ++ entries.Stop w n stop line ∷ []) → IsFinished m log
-  stop_finishes_none w n stop line m (outs, ended) = elim (cases_Bool (is_among (n ∷ []) m)) [
-    | inl names ↦ let now = sym (is_named log (entries.Stop w n stop line) m names) ∙ ended in absurd (cc)
-    | inr apart ↦ (outs, sym (not_named log (entries.Stop w n stop line) m apart) ∙ ended)
-  ]
-
-  pub board_stop : (w n k : ℕ) (stop : Stop) (line : ℕ) (p q : Post) (g' : TaskGraph) → MayEnd log w n → IsOfBody b log n (Halted stop line) → n ≡ f.first + k → slice_get posts w ≡ Some p → q.held.items ≡ without n p.held.items
-      → q.starved ≡ p.starved → g' ≡ where_come g (state_of (comes (entries.Stop w n stop line))) (n ∷ [])
-      → IsBoard f (log ++ entries.Stop w n stop line ∷ []) (with_end cells k (length log)) (set posts w q) g' front closed starved room
-  board_stop w n k stop line p q g' may_end own n_is at left same came =
-      let e : Entry = entries.Stop w n stop line in
-      let may : MayFollow b log e = record { follows = may_end; own = own } in
-      board_ended e w n k (Halted stop line) p q g' front may may_end refl refl refl refl refl refl refl (held_more w log e ∙ ap (λ x. cond x (without n (held w log)) (held w log)) (eq-eqb w w refl)) n_is at left same came
-      (front_same b log e is.legal may front refl (stop_finishes_none w n stop line) is.front_is)
+      let new : List Cell = with_end cells k (length log) in
+      let longer : List Entry = log ++ e ∷ [] in
+      let are : AreCells f.first longer new = cells_ended b log e is.legal may cells k n told.end told.none told.names told.told told.comes_is n_is (omega (arith, place.1, place.2, n_is)) is.cells_are in
+      board_ended e w n k told.end p q g' front' may may_end told.by told.not_close told.fed told.none told.names told.told told.comes_is told.holds n_is at left same came
+      (front_moved b log e is.legal may front front' new told.none are is.front_is more (subst (λ (x : List Cell). front' ≤ length x) cs_is within)
+      (subst (λ (x : List Cell). (j : ℕ) (c : Cell) → front ≤ j → j < front' → slice_get x j ≡ Some c → IsFinishedCell longer c) cs_is
+      (subst (λ (y : List Entry). (j : ℕ) (c : Cell) → front ≤ j → j < front' → slice_get cs j ≡ Some c → IsFinishedCell y c) h_is finished))
+      (subst (λ (x : List Cell). (c : Cell) → slice_get x front' ≡ Some c → ¬ IsFinishedCell longer c) cs_is
+      (subst (λ (y : List Entry). (c : Cell) → slice_get cs front' ≡ Some c → ¬ IsFinishedCell y c) h_is unfinished)))
 
   -- ---- what is asked of it
 
@@ -319,19 +381,6 @@ module _ (f : Fixed) (log : List Entry) (cells : List Cell) (posts : List Post) 
     | inl same ↦ ((λ e. all_done (eqb-true front n same ∙ whole)), (λ all. same))
     | inr apart ↦ ((λ e. absurd (true≢false (sym e ∙ apart))), (λ all. absurd (not_done all (λ same. true≢false (sym (eq-eqb front n (same ∙ sym whole)) ∙ apart)))))
   ]
-
-  -- the same, where the front was looked for in what is equal to the longer history and its cells
-  pub board_finished : (w n k : ℕ) (outs : List (List ℕ)) (p q : Post) (g' : TaskGraph) (front' : ℕ) (h : List Entry) (cs : List Cell) → MayEnd log w n → IsOfBody b log n (Outs outs) → n ≡ f.first + k → slice_get posts w ≡ Some p → q.held.items ≡ without n p.held.items
-      → q.starved ≡ p.starved → g' ≡ where_come g (state_of (comes (entries.Finish w n outs))) (n ∷ []) → h ≡ log ++ entries.Finish w n outs ∷ [] → cs ≡ with_end cells k (length log) → front ≤ front' → front' ≤ length cs
-      → ((j : ℕ) (c : Cell) → front ≤ j → j < front' → slice_get cs j ≡ Some c → IsFinishedCell h c)
-      → ((c : Cell) → slice_get cs front' ≡ Some c → ¬ IsFinishedCell h c)
-      → IsBoard f (log ++ entries.Finish w n outs ∷ []) (with_end cells k (length log)) (set posts w q) g' front' closed starved room
-  board_finished w n k outs p q g' front' h cs may_end own n_is at left same came h_is cs_is more within finished unfinished =
-      board_finish w n k outs p q g' front' may_end own n_is at left same came more (subst (λ (x : List Cell). front' ≤ length x) cs_is within)
-      (subst (λ (x : List Cell). (j : ℕ) (c : Cell) → front ≤ j → j < front' → slice_get x j ≡ Some c → IsFinishedCell (log ++ entries.Finish w n outs ∷ []) c) cs_is
-      (subst (λ (y : List Entry). (j : ℕ) (c : Cell) → front ≤ j → j < front' → slice_get cs j ≡ Some c → IsFinishedCell y c) h_is finished))
-      (subst (λ (x : List Cell). (c : Cell) → slice_get x front' ≡ Some c → ¬ IsFinishedCell (log ++ entries.Finish w n outs ∷ []) c) cs_is
-      (subst (λ (y : List Entry). (c : Cell) → slice_get cs front' ≡ Some c → ¬ IsFinishedCell y c) h_is unfinished))
 
   pub above_tasks : (r : TaskRecord) → IsNext f.first log r → list_all (λ t. nat_lt t.number r.number) g.tasks ≡ true
   above_tasks r next = subst (λ (x : TaskGraph). list_all (λ t. nat_lt t.number r.number) x.tasks ≡ true) (sym is.graph_is) (above_all b log r is.legal next)

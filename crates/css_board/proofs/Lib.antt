@@ -5,4 +5,5 @@ pub mod Fronts
 pub mod Posts
 pub mod Boards
 pub mod Bundles
+pub mod Jobs
 pub mod NamedLines

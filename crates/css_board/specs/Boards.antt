@@ -8,6 +8,7 @@ use Rattle.css_history.specs.declared.fixed.Fixed.{Fixed}
 use Rattle.css_history.specs.Histories.{submits, IsFinished, is_closed, is_starved}
 use Rattle.css_history.specs.Legal.{IsLegal}
 use Rattle.css_board.specs.declared.cell.Cell.{Cell}
+use Rattle.css_board.specs.declared.job.Job.{Job}
 use Rattle.css_board.specs.declared.post.Post.{Post}
 use Rattle.css_board.specs.declared.taken.Taken.{Taken}
 use Rattle.css_board.specs.declared.taken.Taken.TheVariants.{Bundle, Nothing}
@@ -41,11 +42,11 @@ pub record IsBoard (f : Fixed) (log : List Entry) (cells : List Cell) (posts : L
   pub within : length log + coming posts + one_if_not closed ≤ room
   pub small : length log + coming posts + one_if_not closed < 2 ^ 62
 
--- what is said of a bundle, and of there being none
-abbrev pub IfBundle : Taken → Type 0 → Type 0
-IfBundle Bundle P = P
+-- what is said of the jobs of a bundle, and of there being none
+abbrev pub IfBundle : Taken → (List Job → Type 0) → Type 0
+IfBundle (Bundle jobs) P = P jobs.items
 IfBundle Nothing P = Unit {0}
 
 abbrev pub IfNothing : Taken → Type 0 → Type 0
-IfNothing Bundle P = Unit {0}
+IfNothing (Bundle jobs) P = Unit {0}
 IfNothing Nothing P = P

@@ -20,6 +20,16 @@ told_by (entries.Back w numbers) = None
 told_by (entries.Starved w) = None
 told_by entries.Close = None
 
+-- it tells that this task came to an end at this worker
+abbrev pub IsEndBy : (worker n : ℕ) → Entry → Type 0
+IsEndBy w n (entries.Submit rec given) = ⊥
+IsEndBy w n (entries.Take v numbers) = ⊥
+IsEndBy w n (entries.Finish v m outs) = (v ≡ w) × (m ≡ n)
+IsEndBy w n (entries.Stop v m stop line) = (v ≡ w) × (m ≡ n)
+IsEndBy w n (entries.Back v numbers) = ⊥
+IsEndBy w n (entries.Starved v) = ⊥
+IsEndBy w n entries.Close = ⊥
+
 abbrev pub entry_at : List Entry → Option ℕ → Option Entry
 entry_at log None = None
 entry_at log (Some place) = slice_get log place

@@ -1,11 +1,13 @@
 -- What a worker gets of the tasks that it takes.
-use Rattle.std.specs.Prelude.{◌≡◌, ℕ, List, [], ◌∷◌, Some, slice_get}
+use Rattle.std.specs.Prelude.{◌≡◌, ◌++◌, ◌<◌, ℕ, true, List, [], ◌∷◌, length, Some, slice_get}
 use Rattle.css_record.specs.declared.task_record.TaskRecord.{TaskRecord}
 use Rattle.css_record.specs.declared.version.VersionName.{VersionName}
 use Rattle.css_record.specs.declared.version.VersionName.TheVariants as names
-use Rattle.css_yard.specs.Values.{Submit}
+use Rattle.css_yard.specs.Values.{Submit, IsValue}
+use Rattle.css_graph.specs.Tasks.{is_among}
 use Rattle.css_history.specs.declared.entry.Entry.{Entry}
-use Rattle.css_history.specs.Histories.{IsFinished}
+use Rattle.css_history.specs.Terms.{Terms}
+use Rattle.css_history.specs.Histories.{submits}
 use Rattle.css_history.specs.Rules.{IsSubmit}
 use Rattle.css_history.specs.Bodies.{IsFound}
 use Rattle.css_board.specs.declared.job.Job.{Job}
@@ -23,26 +25,33 @@ pub record IsCopy (r c : TaskRecord) : Type 0 where
   pub high : c.high ≡ r.high
   pub line : c.line ≡ r.line
 
--- An input is the version's value where it is there, and else the version, whose task isn't finished.
-abbrev pub IsInput : List Entry → (given : List (List ℕ)) → VersionName → JobInput → Type 0
-IsInput log given version (inputs.Ready bytes) = IsFound log given version bytes
-IsInput log given version (inputs.Chained task out) = (version ≡ names.Made task out) × ¬ IsFinished task log
+module _ (b : Terms) (log : List Entry) where
+  -- the history has these bytes of a version, and they are its value
+  pub record IsReady (given : List (List ℕ)) (version : VersionName) (bytes : List ℕ) : Type 0 where
+    pub found : IsFound log given version bytes
+    pub value : IsValue b.code b.limits.task_units (submits log) given version bytes
 
-abbrev pub AreInputs : List Entry → (given : List (List ℕ)) → List VersionName → List JobInput → Type 0
-AreInputs log given [] [] = Unit {0}
-AreInputs log given (version ∷ versions) (input ∷ inputs) = IsInput log given version input × AreInputs log given versions inputs
-AreInputs log given [] (input ∷ inputs) = ⊥
-AreInputs log given (version ∷ versions) [] = ⊥
+  -- An input is the version's value, or else the version, which a task makes that stands before in the bundle.
+  abbrev pub IsInput : (before : List ℕ) → (given : List (List ℕ)) → VersionName → JobInput → Type 0
+  IsInput before given version (inputs.Ready bytes) = IsReady given version bytes
+  IsInput before given version (inputs.Chained task out) = (version ≡ names.Made task out) × (is_among before task ≡ true)
 
--- The task's record, and its inputs.
-pub record IsJob (log : List Entry) (n : ℕ) (job : Job) : Type 0 where
-  pub submit : Submit
-  pub is_submit : IsSubmit log n submit
-  pub rec : IsCopy submit.rec job.rec
-  pub inputs : AreInputs log submit.given submit.rec.inputs.items job.inputs.items
+  abbrev pub AreInputs : (before : List ℕ) → (given : List (List ℕ)) → List VersionName → List JobInput → Type 0
+  AreInputs before given [] [] = Unit {0}
+  AreInputs before given (version ∷ versions) (input ∷ inputs) = IsInput before given version input × AreInputs before given versions inputs
+  AreInputs before given [] (input ∷ inputs) = ⊥
+  AreInputs before given (version ∷ versions) [] = ⊥
 
-abbrev pub AreJobs : List Entry → (numbers : List ℕ) → List Job → Type 0
-AreJobs log [] [] = Unit {0}
-AreJobs log (n ∷ numbers) (job ∷ jobs) = IsJob log n job × AreJobs log numbers jobs
-AreJobs log [] (job ∷ jobs) = ⊥
-AreJobs log (n ∷ numbers) [] = ⊥
+  -- the record of the task of this number, and its inputs, behind the tasks that stand before in the bundle
+  pub record IsJob (before : List ℕ) (n : ℕ) (job : Job) : Type 0 where
+    pub submit : Submit
+    pub is_submit : IsSubmit log n submit
+    pub rec : IsCopy submit.rec job.rec
+    pub inputs : AreInputs before submit.given submit.rec.inputs.items job.inputs.items
+
+  -- the jobs of these tasks, in order
+  abbrev pub AreJobs : (before numbers : List ℕ) → List Job → Type 0
+  AreJobs before [] [] = Unit {0}
+  AreJobs before (n ∷ numbers) (job ∷ jobs) = IsJob before n job × AreJobs (before ++ n ∷ []) numbers jobs
+  AreJobs before [] (job ∷ jobs) = ⊥
+  AreJobs before (n ∷ numbers) [] = ⊥

@@ -1,5 +1,6 @@
 pub mod Graphs
 pub mod Jobs
+pub mod Drafts
 pub mod Cells
 pub mod Posts
 pub mod Boards

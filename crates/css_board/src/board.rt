@@ -11,19 +11,21 @@ ghost use Rattle.css_history.specs.Terms.{terms_of};
 ghost use Rattle.css_history.specs.Histories.{maker, submits, held, is_closed, is_starved, has_starved};
 ghost use Rattle.css_history.specs.Rules.{IsNext, MayEnd};
 ghost use Rattle.css_history.specs.Bodies.{IsOfBody};
-ghost use Rattle.css_history.specs.Legal.{IsLegal};
+ghost use Rattle.css_history.specs.Legal.{MayFollow, IsLegal};
 ghost use Rattle.css_base.specs.declared.ending.Stop.{Stop as Cause};
 ghost use Rattle.css_yard.specs.Values.{IsValue, IsFirstStop};
 ghost use Rattle.css_history.specs.Seats.{IsFirst};
-ghost use Rattle.css_board.specs.Cells.{IsFoundMade};
+ghost use Rattle.css_board.specs.Cells.{IsEndBy, IsFoundMade};
+ghost use Rattle.css_board.specs.Jobs.{AreJobs};
 ghost use Rattle.css_board.specs.Lines.{line_of};
 ghost use Rattle.css_board.specs.Boards.{graph, AreAllFinished, IfBundle, IfNothing};
 
 use crate::cell::{Cell, front_from, set_end, stop_of};
+use crate::jobs::readied;
 use crate::lines::lines_of;
 use crate::lookup::{cell_at, value_of};
-use crate::post::{Post, coming, held_by, held_with, let_go, posts_of, replace_held, set_starved};
-use crate::producers::producers_of;
+use crate::post::{Post, coming, held_by, let_go, posts_of, replace_held, set_starved};
+use crate::telling::{producers_of, tell_end};
 use crate::taken::Taken;
 use css_base::{Buffer, Limits, Line, NoMemory, Stop};
 use css_graph::{Chosen, Graph};
@@ -144,14 +146,15 @@ impl Board {
         Ok(())
     }
 
-    /// A worker takes the bundle of the graph, if a task may be taken: it then holds its tasks behind those that it held. `Nothing`
-    /// comes exactly where none may be taken. Neither it nor `NoMemory` changes anything.
+    /// A worker takes the bundle of the graph, if a task may be taken: it then holds its tasks behind those that it held, and gets
+    /// their jobs. `Nothing` comes exactly where none may be taken. Neither it nor `NoMemory` changes anything.
     pub fn take(&mut self, alloc: Global, worker: u32) -> Result<Taken, NoMemory>
         requires worker { worker < self.old.fixed.limits.workers }
         ensures fixed { self.new.fixed ≡ self.old.fixed }
         ensures nothing { IfOk result (λ t. IfNothing t ((takeable (graph self.old).tasks ≡ []) × (self.new.history ≡ self.old.history))) }
-        ensures something { IfOk result (λ t. IfBundle t (takeable (graph self.old).tasks ≢ [])) }
-        ensures entered { IfOk result (λ t. IfBundle t (self.new.history ≡ self.old.history ++ entries.Take worker (bundle (graph self.old) self.old.fixed.limits.bundle) ∷ [])) }
+        ensures something { IfOk result (λ t. IfBundle t (λ jobs. takeable (graph self.old).tasks ≢ [])) }
+        ensures entered { IfOk result (λ t. IfBundle t (λ jobs. self.new.history ≡ self.old.history ++ entries.Take worker (bundle (graph self.old) self.old.fixed.limits.bundle) ∷ [])) }
+        ensures jobs { IfOk result (λ t. IfBundle t (λ jobs. AreJobs (terms_of self.new.fixed) self.new.history [] (bundle (graph self.old) self.old.fixed.limits.bundle) jobs)) }
         ensures unchanged { OnErr result (self.new.history ≡ self.old.history) }
     {
         let most = self.fixed.limits.bundle;
@@ -163,7 +166,16 @@ impl Board {
         let Chosen::Bundle(numbers) = self.graph.choose_bundle(alloc, most)? else {
             return Ok(Taken::Nothing);
         };
-        let Ok(held) = held_with(alloc, &self.posts, worker, &numbers) else {
+        let first = self.fixed.first;
+        let Ok((held, jobs)) = readied(
+            alloc,
+            &self.history,
+            &self.cells,
+            first,
+            &self.posts,
+            worker,
+            &numbers,
+        ) else {
             self.graph.back(&numbers);
             return Err(NoMemory);
         };
@@ -172,7 +184,7 @@ impl Board {
             worker,
             numbers: Items::new(numbers),
         });
-        Ok(Taken::Bundle)
+        Ok(Taken::Bundle(jobs))
     }
 
     /// What a worker holds, in the order in which it took it. Takes no memory.
@@ -192,16 +204,15 @@ impl Board {
         ensures fixed { self.new.fixed ≡ self.old.fixed }
         ensures entered { self.new.history ≡ self.old.history ++ entries.Finish worker number outs.items ∷ [] }
     {
-        let place = self.history.len();
-        self.graph.done(number);
-        set_end(&mut self.cells, (number - self.fixed.first) as usize, place);
-        let_go(&mut self.posts, worker, number);
-        self.history.push_reserved(Entry::Finish {
+        self.end(
             worker,
             number,
-            outs: Items::new(outs),
-        });
-        self.front = front_from(&self.history, &self.cells, self.front);
+            Entry::Finish {
+                worker,
+                number,
+                outs: Items::new(outs),
+            },
+        );
     }
 
     /// A task that a worker holds has stopped, as its body stops by itself over the values of its inputs. Takes no memory.
@@ -212,16 +223,32 @@ impl Board {
         ensures fixed { self.new.fixed ≡ self.old.fixed }
         ensures entered { self.new.history ≡ self.old.history ++ entries.Stop worker number stop line ∷ [] }
     {
-        let place = self.history.len();
-        self.graph.stopped(number);
-        set_end(&mut self.cells, (number - self.fixed.first) as usize, place);
-        let_go(&mut self.posts, worker, number);
-        self.history.push_reserved(Entry::Stop {
+        self.end(
             worker,
             number,
-            stop,
-            line,
-        });
+            Entry::Stop {
+                worker,
+                number,
+                stop,
+                line,
+            },
+        );
+    }
+
+    // A task that a worker holds came to the end that an entry tells.
+    fn end(&mut self, worker: u32, number: u64, entry: Entry)
+        requires worker { worker < self.old.fixed.limits.workers }
+        requires end { IsEndBy worker number entry }
+        requires may { MayFollow (terms_of self.old.fixed) self.old.history entry }
+        ensures fixed { self.new.fixed ≡ self.old.fixed }
+        ensures entered { self.new.history ≡ self.old.history ++ entry ∷ [] }
+    {
+        let place = self.history.len();
+        tell_end(&mut self.graph, number, &entry);
+        set_end(&mut self.cells, (number - self.fixed.first) as usize, place);
+        let_go(&mut self.posts, worker, number);
+        self.history.push_reserved(entry);
+        self.front = front_from(&self.history, &self.cells, self.front);
     }
 
     /// A worker gives back what it holds, which is something. Takes no memory.

@@ -4,10 +4,11 @@
 mod board;
 mod cell;
 mod job;
+mod jobs;
 mod lines;
 mod lookup;
 mod post;
-mod producers;
+mod telling;
 mod taken;
 
 pub use board::Board;
