@@ -7,6 +7,7 @@ pub mod LendsStaged
 pub mod Pieces
 pub mod Plans
 pub mod Refusals
+pub mod Seats
 pub mod Slots
 pub mod Staged
 pub mod States
