@@ -7,7 +7,7 @@ use Rattle.css_record.specs.declared.task_record.TaskRecord.{TaskRecord}
 use Rattle.css_record.specs.declared.version.VersionName.{VersionName}
 use Rattle.css_record.specs.declared.version.VersionName.TheVariants as names
 use Rattle.css_record.specs.Records.{uses}
-use Rattle.css_semantics.specs.Tasks.{Use}
+use Rattle.css_semantics.specs.Tasks.{Use, window_length}
 use Rattle.css_vm.specs.Code.{Code}
 use Rattle.css_task.specs.Alone.{End, Outs, IsAlone}
 use Rattle.css_yard.specs.Values.{Submit, Ends, IsValue, Alone}
@@ -58,19 +58,19 @@ module _ (b : Terms) (log : List Entry) (legal : Legal b log) where
   before_all : (k : ℕ) (s : Submit) → Contains (take k (submits log)) s → Contains (submits log) s
   before_all k s has = subst (λ l. Contains l s) (take-append-drop k (submits log)) (Contains-append_left (take k (submits log)) _ s has)
 
-  -- What a finished task makes is found.
-  pub made_found : (task out : ℕ) (u : Use) → IsMade b.code (submits log) task out u → (outs : List (List ℕ)) → standing task log ≡ Ended (Outs outs) → (bytes : List ℕ) × (slice_get outs out ≡ Some bytes)
+  -- What a finished task makes is there, as long as its window.
+  pub made_found : (task out : ℕ) (u : Use) → IsMade b.code (submits log) task out u → (outs : List (List ℕ)) → standing task log ≡ Ended (Outs outs)
+      → (bytes : List ℕ) × (slice_get outs out ≡ Some bytes) × (length bytes ≡ window_length u.window)
   made_found task out u made outs ended = found (ends_are_own b log legal task (Outs outs) ended)
     where
-      found : Ends b.code units (submits log) task (Outs outs) → (bytes : List ℕ) × (slice_get outs out ≡ Some bytes)
+      found : Ends b.code units (submits log) task (Outs outs) → (bytes : List ℕ) × (slice_get outs out ≡ Some bytes) × (length bytes ≡ window_length u.window)
       found (Alone s inputs has is values alone) =
           let same : s ≡ made.submit = one_submit b.code b.limits (submits log) (are_submitted b log legal) s made.submit has made.is_there (is ∙ sym made.number) in
           let its : IsAlone b.code made.submit.rec inputs units (Outs outs) = subst (λ (x : Submit). IsAlone b.code x.rec inputs units (Outs outs)) same alone in
-          let there = out_is_there b.code made.submit.rec made.routine made.shape inputs units outs out u made.task_of its made.parameter in
-          (there.0, there.1)
+          out_is_there b.code made.submit.rec made.routine made.shape inputs units outs out u made.task_of its made.parameter
 
   -- a submitted task, with what it may be submitted behind
-  may_be : (s : Submit) → Contains (submits log) s → (k : ℕ) × MaySubmit b.code b.limits (take k (submits log)) s.rec s.given
+  pub may_be : (s : Submit) → Contains (submits log) s → (k : ℕ) × MaySubmit b.code b.limits (take k (submits log)) s.rec s.given
   may_be s has = let at = place_of (submits log) s has in (at.0, are_submitted b log legal at.0 s at.1)
 
   fits_of : (s : Submit) → Contains (submits log) s → (k : ℕ) (version : VersionName) → slice_get s.rec.inputs.items k ≡ Some version
@@ -80,8 +80,8 @@ module _ (b : Terms) (log : List Entry) (legal : Legal b log) where
       let u = is_within (reading (uses may.fits.shape s.rec)) k (omega (arith, slice_get_within s.rec.inputs.items k version at, may.fits.inputs)) in
       (place, u.0, may.inputs may.fits.shape may.fits.routine (task_of b.code s.rec may.fits) k version u.0 at u.1)
 
-  made_of : (place : ℕ) (given : List (List ℕ)) (task out : ℕ) (u : Use) → FitsInput b.code (take place (submits log)) given (names.Made task out) u → (v : Use) × IsMade b.code (submits log) task out v
-  made_of place given task out u (v, made, long) = (v, record {
+  pub made_before : (place task out : ℕ) (v : Use) → IsMade b.code (take place (submits log)) task out v → IsMade b.code (submits log) task out v
+  made_before place task out v made = record {
     submit = made.submit;
     is_there = before_all place made.submit made.is_there;
     number = made.number;
@@ -89,14 +89,14 @@ module _ (b : Terms) (log : List Entry) (legal : Legal b log) where
     shape = made.shape;
     task_of = made.task_of;
     parameter = made.parameter;
-  })
+  }
 
   -- the value of an input of a finished task is there
   input_found : (s : Submit) → Contains (submits log) s → (k task out : ℕ) → slice_get s.rec.inputs.items k ≡ Some (names.Made task out) → IsFinished task log → (bytes : List ℕ) × IsFound log s.given (names.Made task out) bytes
   input_found s has k task out at (outs, ended) =
-      let (place, u, fits) = fits_of s has k (names.Made task out) at in
-      let (v, made) = made_of place s.given task out u fits in
-      let there = made_found task out v made outs ended in
+      let fits = fits_of s has k (names.Made task out) at in
+      let made = fits.2 in
+      let there = made_found task out made.0 (made_before fits.0 task out made.0 made.1) outs ended in
       (there.0, (outs, ended, there.1))
 
   there_by : (submits' : List Submit) (given : List (List ℕ)) (version : VersionName) (u : Use) → FitsInput b.code submits' given version u → IsThere given version
@@ -105,8 +105,8 @@ module _ (b : Terms) (log : List Entry) (legal : Legal b log) where
 
   input_there : (s : Submit) → Contains (submits log) s → (k : ℕ) (version : VersionName) → slice_get s.rec.inputs.items k ≡ Some version → IsThere s.given version
   input_there s has k version at =
-      let (place, u, fits) = fits_of s has k version at in
-      there_by (take place (submits log)) s.given version u fits
+      let fits = fits_of s has k version at in
+      there_by (take fits.0 (submits log)) s.given version fits.1 fits.2
 
   all_by_place : (given : List (List ℕ)) (versions : List VersionName) → ((k : ℕ) (version : VersionName) → slice_get versions k ≡ Some version → IsThere given version) → All (IsThere given) versions
   all_by_place given [] each = All-nil (IsThere given)

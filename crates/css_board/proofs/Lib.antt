@@ -6,4 +6,6 @@ pub mod Posts
 pub mod Boards
 pub mod Bundles
 pub mod Jobs
+pub mod Copies
+pub mod Runs
 pub mod NamedLines

@@ -5,3 +5,4 @@ pub mod Cells
 pub mod Posts
 pub mod Boards
 pub mod Lines
+pub mod Runs

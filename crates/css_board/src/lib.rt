@@ -5,6 +5,7 @@ mod board;
 mod cell;
 mod job;
 mod jobs;
+mod laws;
 mod lines;
 mod lookup;
 mod post;
@@ -13,4 +14,5 @@ mod taken;
 
 pub use board::Board;
 pub use job::{Job, JobInput};
+pub use laws::{jobs_are_run, jobs_remain};
 pub use taken::Taken;
