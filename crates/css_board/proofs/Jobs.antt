@@ -34,7 +34,7 @@ use Rattle.css_board.specs.declared.job.Job.{Job}
 use Rattle.css_board.specs.declared.job.JobInput.{JobInput}
 use Rattle.css_board.specs.declared.job.JobInput.TheVariants as inputs
 use Rattle.css_board.specs.Jobs as jobs
-use Rattle.css_board.specs.Drafts.{IsThere, MayDraft, IsInputDraft, AreInputDrafts, IsDraft, AreDrafts}
+use Rattle.css_board.specs.Drafts.{IsThere, HasPlace, MayDraft, IsInputDraft, AreInputDrafts, IsDraft, AreDrafts}
 
 -- ---- drafts, one more at a time
 
@@ -112,17 +112,16 @@ module _ (b : Terms) (log : List Entry) (legal : Legal b log) where
   all_by_place given [] each = All-nil (IsThere given)
   all_by_place given (v ∷ versions) each = All-cons (IsThere given) v versions (each 0 v refl) (all_by_place given versions (λ k. each (suc k)))
 
-  may_draft : (n : ℕ) (s : Submit) → IsSubmit log n s → MayDraft b.first log n
-  may_draft n s is =
+  pub has_place_of : (n : ℕ) (s : Submit) → IsSubmit log n s → HasPlace b.first log n
+  has_place_of n s is =
       let at = index_of b log legal n s is in
-      record {
-        place = at.0;
-        number = at.2;
-        submit = s;
-        is_there = at.1;
-        is_number = is.number;
-        given = all_by_place s.given s.rec.inputs.items (input_there s is.is_there);
-      }
+      record { place = at.0; number = at.2; submit = s; is_there = at.1; is_number = is.number }
+
+  may_draft : (n : ℕ) (s : Submit) → IsSubmit log n s → MayDraft b.first log n
+  may_draft n s is = record {
+    at = has_place_of n s is;
+    given = all_by_place s.given s.rec.inputs.items (input_there s is.is_there);
+  }
 
   -- what may be taken has jobs
   pub may_drafts : (before numbers : List ℕ) → MayTake log before numbers → All (MayDraft b.first log) numbers

@@ -21,6 +21,7 @@ ghost use Rattle.css_board.specs.Lines.{line_of};
 ghost use Rattle.css_board.specs.Boards.{graph, AreAllFinished, IfBundle, IfNothing};
 
 use crate::cell::{Cell, front_from, set_end, stop_of};
+use crate::ends::has_ready_inputs;
 use crate::jobs::readied;
 use crate::lines::lines_of;
 use crate::lookup::{cell_at, value_of};
@@ -339,6 +340,17 @@ impl Board {
         ensures { result ≡ is_closed self.now.history }
     {
         self.closed
+    }
+
+    /// Whether a worker holds a task whose made inputs are finished, so that it may say how it ended. Takes no memory.
+    pub fn may_end(&self, worker: u32, number: u64) -> bool
+        requires { worker < self.now.fixed.limits.workers }
+        ensures { IsTrue result ↔ MayEnd self.now.history worker number }
+    {
+        if !held_by(&self.posts, worker).contains(&number) {
+            return false;
+        }
+        has_ready_inputs(&self.history, &self.cells, self.fixed.first, number)
     }
 
     /// Whether a task may be taken, so that `take` would not answer `Nothing`.

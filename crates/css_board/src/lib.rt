@@ -3,6 +3,7 @@
 
 mod board;
 mod cell;
+mod ends;
 mod job;
 mod jobs;
 mod laws;
