@@ -47,3 +47,40 @@ pub(crate) fn add(
         Err(_) => Err(NoMemory),
     }
 }
+
+// The first stop, where there is one, with the number of its line.
+fn first_stop(board: &Board) -> Option<(u64, Stop, u32)> {
+    match board.first_stop() {
+        Some((task, stop, line)) => Some((task, stop, line.number())),
+        None => None,
+    }
+}
+
+// Two tasks that divide by zero are taken by two workers, and the second stops first in time.
+fn stop_in_turn(rt: &impl Abort, alloc: Global, code: &Arc<Code>) -> Result<(), NoMemory>
+    requires { code_of (arc_value code.now) ≡ tasks_code }
+{
+    let mut board = board_of(alloc, code)?;
+    add(alloc, &mut board, 0, LATE, 1, 7)?;
+    add(alloc, &mut board, 1, SOON, 1, 7)?;
+    let units = Limits::DEFAULT.task_units;
+    let late = take(alloc, &mut board, 0)?;
+    let soon = take(alloc, &mut board, 1)?;
+    assert_eq!(rt; (late.len(), soon.len()), (1, 1));
+    let worked = work_in_turn(alloc, &mut board, code, units, 1, soon.as_slice())?;
+    assert_eq!(rt; worked, Worked::Stopped);
+    assert_eq!(rt; first_stop(&board), None);
+    let worked = work_in_turn(alloc, &mut board, code, units, 0, late.as_slice())?;
+    assert_eq!(rt; worked, Worked::Stopped);
+    let by_zero = Stop::Fault(FaultKind::DivideByZero);
+    assert_eq!(rt; first_stop(&board), Some((0, by_zero, 5)));
+    assert!(rt; !board.all_done());
+    Ok(())
+}
+
+#[test]
+fn first_stop_is_the_first_by_number(rt: HostRuntime) -> Result<(), Fail> {
+    let code = Arc::new(rt.alloc(), code_of_tasks(rt.alloc())?)?;
+    stop_in_turn(&rt, rt.alloc(), &code)?;
+    Ok(())
+}
