@@ -1,8 +1,8 @@
 -- The jobs of tasks that are taken together.
 use Rattle.std.proofs.Common.{◌≡◌, ◌≢◌, ◌⊎◌, ℕ, zero, suc, ◌+◌, ◌<◌, ◌||◌, Bool, true, false, List, [], ◌∷◌, ◌++◌, length, take, All, Some, slice_get, Contains, refl, ap, sym, ◌∙◌, subst, inl, inr, arith}
 use Rattle.std.proofs.lemmas.List.Elements.{All-nil, All-cons, All-head, All-tail, Contains-append_left}
-use Rattle.std.proofs.lemmas.List.{take-append-drop}
-use Rattle.std.proofs.lemmas.Option.{slice_get_within}
+use Rattle.std.proofs.lemmas.List.{take-append-drop, take_more}
+use Rattle.std.proofs.lemmas.Option.{slice_get_within, get_or_from_slice_get}
 use Rattle.css_record.specs.declared.task_record.TaskRecord.{TaskRecord}
 use Rattle.css_record.specs.declared.version.VersionName.{VersionName}
 use Rattle.css_record.specs.declared.version.VersionName.TheVariants as names
@@ -50,6 +50,19 @@ more_drafts log [] [] n job are is = (is, tt)
 more_drafts log [] (j ∷ all) n job are is = absurd are
 more_drafts log (m ∷ numbers) [] n job are is = absurd are
 more_drafts log (m ∷ numbers) (j ∷ all) n job are is = (are.0, more_drafts log numbers all n job are.1 is)
+
+next_front : {X : Type 0} (xs : List X) (k : ℕ) (x : X) → slice_get xs k ≡ Some x → take (k + 1) xs ≡ take k xs ++ x ∷ []
+next_front xs k x at = take_more xs k x (slice_get_within xs k x at) ∙ ap (λ y. take k xs ++ y ∷ []) (get_or_from_slice_get xs k x x at)
+
+pub next_input : (log : List Entry) (given : List (List ℕ)) (versions : List VersionName) (all : List JobInput) (k : ℕ) (version : VersionName) (input : JobInput) → slice_get versions k ≡ Some version
+    → AreInputDrafts log given (take k versions) all → IsInputDraft log given version input → AreInputDrafts log given (take (k + 1) versions) (all ++ input ∷ [])
+next_input log given versions all k version input at are is =
+    subst (λ vs. AreInputDrafts log given vs (all ++ input ∷ [])) (sym (next_front versions k version at)) (more_inputs log given (take k versions) all version input are is)
+
+pub next_draft : (log : List Entry) (numbers : List ℕ) (all : List Job) (k n : ℕ) (job : Job) → slice_get numbers k ≡ Some n → AreDrafts log (take k numbers) all → IsDraft log n job
+    → AreDrafts log (take (k + 1) numbers) (all ++ job ∷ [])
+next_draft log numbers all k n job at are is =
+    subst (λ ns. AreDrafts log ns (all ++ job ∷ [])) (sym (next_front numbers k n at)) (more_drafts log (take k numbers) all n job are is)
 
 module _ (b : Terms) (log : List Entry) (legal : Legal b log) where
   abbrev units : ℕ
@@ -158,9 +171,10 @@ module _ (b : Terms) (log : List Entry) (legal : Legal b log) where
     inputs_are s has before [] (input ∷ all) each ready are = absurd are
     inputs_are s has before (version ∷ versions) [] each ready are = absurd are
     inputs_are s has before (version ∷ versions) (input ∷ all) each ready are =
-        let at = each 0 version refl in
-        (input_is s has before at.0 version input at.1 (All-head (IsReady log before) version versions ready) are.0,
-        inputs_are s has before versions all (λ k. each (suc k)) (All-tail (IsReady log before) version versions ready) are.1)
+        let at = each 0 version refl in (
+          input_is s has before at.0 version input at.1 (All-head (IsReady log before) version versions ready) are.0,
+          inputs_are s has before versions all (λ k. each (suc k)) (All-tail (IsReady log before) version versions ready) are.1,
+        )
 
     one_of : (n : ℕ) (s t : Submit) → IsSubmit log n s → IsSubmit log n t → s ≡ t
     one_of n s t is other = one_submit b.code b.limits (submits log) (are_submitted b log legal) s t is.is_there other.is_there (is.number ∙ sym other.number)

@@ -20,14 +20,14 @@ ghost use Rattle.css_board.specs.Jobs.{AreJobs};
 ghost use Rattle.css_board.specs.Lines.{line_of};
 ghost use Rattle.css_board.specs.Boards.{graph, AreAllFinished, IfBundle, IfNothing};
 
+use crate::bundle::readied;
 use crate::cell::{Cell, front_from, set_end, stop_of};
 use crate::ends::has_ready_inputs;
-use crate::jobs::readied;
 use crate::lines::lines_of;
 use crate::lookup::{cell_at, value_of};
 use crate::post::{Post, coming, held_by, let_go, posts_of, replace_held, set_starved};
-use crate::telling::{producers_of, tell_end};
 use crate::taken::Taken;
+use crate::telling::{producers_of, tell_end};
 use css_base::{Buffer, Limits, Line, NoMemory, Stop};
 use css_graph::{Chosen, Graph};
 use css_history::{Entry, Fixed};

@@ -34,12 +34,7 @@ fn are_ready(history: &[Entry], cells: &[Cell], first: u64, versions: &[VersionN
 }
 
 /// Whether the made inputs of a submitted task are finished.
-pub(crate) fn has_ready_inputs(
-    history: &[Entry],
-    cells: &[Cell],
-    first: u64,
-    number: u64,
-) -> bool
+pub(crate) fn has_ready_inputs(history: &[Entry], cells: &[Cell], first: u64, number: u64) -> bool
     requires kept { AreKept first history.now cells.now }
     requires place { HasPlace first history.now number }
     ensures { IsTrue result ↔ HasReadyInputs history.now number }

@@ -2,16 +2,16 @@
 #![tactic(auto)]
 
 mod board;
+mod bundle;
 mod cell;
 mod ends;
 mod job;
-mod jobs;
 mod laws;
 mod lines;
 mod lookup;
 mod post;
-mod telling;
 mod taken;
+mod telling;
 
 pub use board::Board;
 pub use job::{Job, JobInput};

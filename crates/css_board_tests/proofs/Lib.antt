@@ -1,4 +1,4 @@
 pub mod Sound
 pub mod Calls
 pub mod Boards
-pub mod Work
+pub mod Working

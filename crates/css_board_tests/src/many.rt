@@ -41,7 +41,14 @@ fn work_through(alloc: Global, board: &mut Board, code: &Code) -> Result<(), NoM
             return Ok(());
         }
         let jobs = take(alloc, board, 0)?;
-        work_in_turn(alloc, board, code, Limits::DEFAULT.task_units, 0, jobs.as_slice())?;
+        work_in_turn(
+            alloc,
+            board,
+            code,
+            Limits::DEFAULT.task_units,
+            0,
+            jobs.as_slice(),
+        )?;
     }
     Ok(())
 }

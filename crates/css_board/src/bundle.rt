@@ -1,4 +1,4 @@
-//! The jobs of tasks that are taken together.
+//! The jobs of a bundle.
 ghost use Rattle.std.specs.Prelude.{◌≡◌, ◌<◌, ◌++◌, All, IfOk, length, slice_get, Some};
 ghost use Rattle.css_board.specs.declared.post.Post.{Post as Desk};
 ghost use Rattle.css_board.specs.Cells.{AreKept};
