@@ -18,7 +18,7 @@ use Rattle.css_graph.specs.Tasks.{Task, TaskGraph, come_to, is_among, where_come
 use Rattle.css_graph.specs.declared.state.TaskState.{TaskState}
 use Rattle.css_graph.specs.declared.state.TaskState.TheVariants as states
 use Rattle.css_graph.specs.Bundle.{AreDifferent, bundle}
-use Rattle.css_history.proofs.Standings.{taken_waits}
+use Rattle.css_history.proofs.Standings.{taken_waits, held_are}
 use Rattle.css_graph.proofs.Takeable.{among_append}
 use Rattle.css_board.proofs.Lists.{all_among}
 use Rattle.css_board.proofs.Bundles.{bundle_may}
@@ -27,14 +27,17 @@ use Rattle.css_history.specs.declared.entry.Entry.{Entry}
 use Rattle.css_history.specs.declared.entry.Entry.TheVariants as entries
 use Rattle.css_history.specs.declared.fixed.Fixed.{Fixed}
 use Rattle.css_history.specs.Terms.{Terms, terms_of}
-use Rattle.css_history.specs.Histories.{maker, Waiting, Ended, standing, submitted, submits, named, comes, without, held, closes, hungry, is_some_worker, is_worker, is_closed, is_starved, has_starved, IsFinished}
-use Rattle.css_history.specs.Rules.{IsSubmit, IsNext, MayTake, MayEnd}
+use Rattle.css_history.specs.Histories.{maker, Waiting, Held, Ended, standing, submitted, submits, named, comes, without, held, closes, hungry, is_some_worker, is_worker, is_closed, is_starved, has_starved, IsFinished}
+use Rattle.css_history.specs.Rules.{IsSubmit, IsNext, AreReady, MayTake, MayEnd}
 use Rattle.css_history.specs.Bodies.{IsOfBody}
 use Rattle.css_history.specs.Legal.{MayFollow, Legal, IsLegal}
 use Rattle.css_history.proofs.Bools.{or_left, or_right}
 use Rattle.css_history.proofs.Histories.{held_more, any_more, is_named, not_named}
 use Rattle.css_history.proofs.Numbers.{index_of, numbered, submit_of}
-use Rattle.css_history.proofs.Values.{values_are_own, first_stops}
+use Rattle.css_history.proofs.Values.{are_submitted, values_are_own, first_stops}
+use Rattle.css_yard.proofs.Numbers.{one_submit}
+use Rattle.css_board.specs.Drafts.{HasPlace}
+use Rattle.css_board.proofs.Jobs.{has_place_of}
 use Rattle.css_history.specs.Seats.{IsFirst}
 use Rattle.css_board.specs.declared.cell.Cell.{Cell}
 use Rattle.css_board.specs.declared.post.Post.{Post}
@@ -359,6 +362,22 @@ module _ (f : Fixed) (log : List Entry) (cells : List Cell) (posts : List Post) 
       (subst (λ (y : List Entry). (c : Cell) → slice_get cs front' ≡ Some c → ¬ IsFinishedCell y c) h_is unfinished)))
 
   -- ---- what is asked of it
+
+  pub holds_it : (w n : ℕ) (p : Post) → slice_get posts w ≡ Some p → is_among p.held.items n ≡ true → is_among (held w log) n ≡ true
+  holds_it w n p at among = subst (λ l. is_among l n ≡ true) (post_at w p at).held_is among
+
+  pub held_place : (w n : ℕ) → is_among (held w log) n ≡ true → HasPlace f.first log n
+  held_place w n mine =
+      let stands : standing n log ≡ Held w = held_are b log is.legal w n mine in
+      let it = submit_of b log is.legal n (λ waits. absurd (let both : Waiting ≡ Held w = sym waits ∙ stands in cc)) in
+      has_place_of b log is.legal n it.0 it.1
+
+  pub may_end_by : (w n : ℕ) (s : Submit) (ready : Bool) → is_among (held w log) n ≡ true → IsSubmit log n s → (IsTrue ready → AreReady log [] s.rec) × (AreReady log [] s.rec → IsTrue ready)
+      → (IsTrue ready → MayEnd log w n) × (MayEnd log w n → IsTrue ready)
+  may_end_by w n s ready mine submit both = (
+    (λ yes. record { submit = s; is_submit = submit; mine = mine; ready = both.0 yes }),
+    (λ may. both.1 (subst (λ (x : Submit). AreReady log [] x.rec) (one_submit (terms_of f).code f.limits (submits log) (are_submitted b log is.legal) may.submit s may.is_submit.is_there submit.is_there (may.is_submit.number ∙ sym submit.number)) may.ready)),
+  )
 
   pub all_done : front ≡ length cells → AreAllFinished log
   all_done whole s has =

@@ -1,6 +1,6 @@
 -- The jobs of tasks that are taken together.
-use Rattle.std.proofs.Common.{◌≡◌, ◌≢◌, ◌⊎◌, ℕ, zero, suc, ◌+◌, ◌<◌, ◌||◌, Bool, true, false, List, [], ◌∷◌, ◌++◌, length, take, All, Some, slice_get, Contains, refl, ap, sym, ◌∙◌, subst, inl, inr, arith}
-use Rattle.std.proofs.lemmas.List.Elements.{All-nil, All-cons, All-head, All-tail, Contains-append_left}
+use Rattle.std.proofs.Common.{◌≡◌, ◌≢◌, ◌⊎◌, ℕ, zero, suc, ◌+◌, ◌-◌, ◌<◌, ◌≤◌, ◌||◌, Bool, true, false, List, [], ◌∷◌, ◌++◌, length, take, All, Some, slice_get, Contains, refl, ap, ap₂, sym, ◌∙◌, subst, inl, inr, arith}
+use Rattle.std.proofs.lemmas.List.Elements.{All-nil, All-cons, All-head, All-tail, All-push, Contains-append_left}
 use Rattle.std.proofs.lemmas.List.{take-append-drop, take_more}
 use Rattle.std.proofs.lemmas.Option.{slice_get_within, get_or_from_slice_get}
 use Rattle.css_record.specs.declared.task_record.TaskRecord.{TaskRecord}
@@ -34,7 +34,9 @@ use Rattle.css_board.specs.declared.job.Job.{Job}
 use Rattle.css_board.specs.declared.job.JobInput.{JobInput}
 use Rattle.css_board.specs.declared.job.JobInput.TheVariants as inputs
 use Rattle.css_board.specs.Jobs as jobs
-use Rattle.css_board.specs.Drafts.{IsThere, HasPlace, MayDraft, IsInputDraft, AreInputDrafts, IsDraft, AreDrafts}
+use Rattle.css_board.specs.declared.cell.Cell.{Cell}
+use Rattle.css_board.specs.Cells.{IsFoundMade, AreKept}
+use Rattle.css_board.specs.Drafts.{IsThere, HasPlace, IsInputDraft, AreInputDrafts, IsDraft, AreDrafts}
 
 -- ---- drafts, one more at a time
 
@@ -128,18 +130,19 @@ module _ (b : Terms) (log : List Entry) (legal : Legal b log) where
   pub has_place_of : (n : ℕ) (s : Submit) → IsSubmit log n s → HasPlace b.first log n
   has_place_of n s is =
       let at = index_of b log legal n s is in
-      record { place = at.0; number = at.2; submit = s; is_there = at.1; is_number = is.number }
-
-  may_draft : (n : ℕ) (s : Submit) → IsSubmit log n s → MayDraft b.first log n
-  may_draft n s is = record {
-    at = has_place_of n s is;
-    given = all_by_place s.given s.rec.inputs.items (input_there s is.is_there);
-  }
+      record {
+        place = at.0;
+        number = at.2;
+        submit = s;
+        is_there = at.1;
+        is_number = is.number;
+        given = all_by_place s.given s.rec.inputs.items (input_there s is.is_there);
+      }
 
   -- what may be taken has jobs
-  pub may_drafts : (before numbers : List ℕ) → MayTake log before numbers → All (MayDraft b.first log) numbers
-  may_drafts before [] may = All-nil (MayDraft b.first log)
-  may_drafts before (n ∷ numbers) may = All-cons (MayDraft b.first log) n numbers (may_draft n may.0.submit may.0.is_submit) (may_drafts (before ++ n ∷ []) numbers may.1)
+  pub have_places : (before numbers : List ℕ) → MayTake log before numbers → All (HasPlace b.first log) numbers
+  have_places before [] may = All-nil (HasPlace b.first log)
+  have_places before (n ∷ numbers) may = All-cons (HasPlace b.first log) n numbers (has_place_of n may.0.submit may.0.is_submit) (have_places (before ++ n ∷ []) numbers may.1)
 
   -- ---- in the history that has the take
 
@@ -196,3 +199,46 @@ module _ (b : Terms) (log : List Entry) (legal : Legal b log) where
     jobs_are before [] (job ∷ all) take are = absurd are
     jobs_are before (n ∷ numbers) [] take are = absurd are
     jobs_are before (n ∷ numbers) (job ∷ all) take are = (job_is before n job take.0 are.0, jobs_are (before ++ n ∷ []) numbers all take.1 are.1)
+
+-- an input that isn't found is chained
+pub not_found : (log : List Entry) (given : List (List ℕ)) (version : VersionName) (task out : ℕ) → version ≡ names.Made task out → ((bytes : List ℕ) → ¬ IsFoundMade log (names.Made task out) bytes)
+    → IsInputDraft log given version (inputs.Chained task out)
+not_found log given version task out is none = (is, λ bytes found. none bytes (subst (λ (v : VersionName). IsFound log given v bytes) is found))
+
+-- ---- a task's cell
+
+module _ (first : ℕ) (log : List Entry) (cells : List Cell) (n : ℕ) (c : Cell) (kept : AreKept first log cells) (place : HasPlace first log n) (at : slice_get cells (n - first) ≡ Some c) where
+  submit_at : slice_get log c.submit ≡ Some (entries.Submit place.submit.rec place.submit.given)
+  submit_at =
+      let cell = kept.cells_are.each (n - first) c at in
+      let same : place.place ≡ n - first = omega (arith, place.number) in
+      let both : Some place.submit ≡ Some cell.task = sym place.is_there ∙ (ap (slice_get (submits log)) same ∙ cell.task_is) in
+      let one : cell.task ≡ place.submit = cc in
+      cell.submit_is ∙ ap (λ (s : Submit). Some (entries.Submit s.rec s.given)) one
+
+  pub has_submit : ((rec : TaskRecord) (given : List (List ℕ)) → slice_get log c.submit ≢ Some (entries.Submit rec given)) → ⊥
+  has_submit none = none place.submit.rec place.submit.given submit_at
+
+  one_task : (rec : TaskRecord) (given : List (List ℕ)) → slice_get log c.submit ≡ Some (entries.Submit rec given) → (place.submit.rec ≡ rec) × (place.submit.given ≡ given)
+  one_task rec given is =
+      let both : Some (entries.Submit place.submit.rec place.submit.given) ≡ Some (entries.Submit rec given) = sym submit_at ∙ is in
+      (cc, cc)
+
+  pub is_submit_at : (rec : TaskRecord) (given : List (List ℕ)) → slice_get log c.submit ≡ Some (entries.Submit rec given) → IsSubmit log n (record { rec = rec; given = given })
+  is_submit_at rec given is =
+      let one = one_task rec given is in
+      let same : place.submit ≡ record { rec = rec; given = given } = ap₂ (λ (r : TaskRecord) (g : List (List ℕ)). let s : Submit = record { rec = r; given = g } in s) one.0 one.1 in
+      subst (λ (s : Submit). IsSubmit log n s) same (record { is_there = has_place (submits log) place.place place.submit place.is_there; number = place.is_number })
+
+  pub are_there_at : (rec : TaskRecord) (given : List (List ℕ)) → slice_get log c.submit ≡ Some (entries.Submit rec given) → All (IsThere given) rec.inputs.items
+  are_there_at rec given is =
+      let one = one_task rec given is in
+      subst (λ (r : TaskRecord). All (IsThere given) r.inputs.items) one.0 (subst (λ (g : List (List ℕ)). All (IsThere g) place.submit.rec.inputs.items) one.1 place.given)
+
+-- ---- whether inputs are ready
+
+pub more_ready : {X : Type 0} (P : X → Type 0) (xs : List X) (k : ℕ) (x : X) → slice_get xs k ≡ Some x → All P (take k xs) → P x → All P (take (k + 1) xs)
+more_ready P xs k x at all is = subst (All P) (sym (next_front xs k x at)) (All-push P (take k xs) x all is)
+
+pub not_all_ready : {X : Type 0} (P : X → Type 0) (xs : List X) (k : ℕ) (x : X) → slice_get xs k ≡ Some x → ¬ P x → ¬ All P xs
+not_all_ready P xs k x at none all = none (all_at P xs k x at all)

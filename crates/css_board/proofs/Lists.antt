@@ -1,5 +1,5 @@
 -- Elements of lists, once one is set.
-use Rattle.std.proofs.Common.{◌≡◌, ◌≢◌, ◌⊎◌, ℕ, zero, suc, Bool, true, false, true≢false, ◌||◌, ◌==◌, List, [], ◌∷◌, ◌++◌, length, set, Some, Option, None, IfSome, IfNone, refl, ap, sym, ◌∙◌, inl, inr, arith, slice_get}
+use Rattle.std.proofs.Common.{◌≡◌, ◌≢◌, ◌⊎◌, ℕ, zero, suc, Bool, true, false, true≢false, ◌||◌, ◌==◌, List, [], ◌∷◌, ◌++◌, ◌<◌, length, set, get_or, Some, Option, None, IfSome, IfNone, refl, ap, sym, ◌∙◌, inl, inr, arith, slice_get}
 use Rattle.std.specs.List.{list_all}
 use Rattle.std.proofs.lemmas.Bool.{and_from, eq-eqb}
 use Rattle.css_graph.specs.Tasks.{is_among}
@@ -31,3 +31,9 @@ some_weaker (Some x) P Q weak h = weak x h
 pub none_weaker : {X : Type 0} (a : Option X) (P Q : Type 0) → (P → Q) → IfNone a P → IfNone a Q
 none_weaker None P Q weak h = weak h
 none_weaker (Some x) P Q weak h = tt
+
+-- a number that stands at a place is among the list
+pub among_at : (ns : List ℕ) (n k : ℕ) → k < length ns → (get_or ns k 0 == n) ≡ true → is_among ns n ≡ true
+among_at [] n k below same = absurd (omega (arith, below))
+among_at (m ∷ ns) n zero below same = or_left (m == n) (is_among ns n) same
+among_at (m ∷ ns) n (suc k) below same = or_right (m == n) (is_among ns n) (among_at ns n k (omega (arith, below)) same)

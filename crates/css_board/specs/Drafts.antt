@@ -5,7 +5,7 @@ use Rattle.css_record.specs.declared.version.VersionName.TheVariants as names
 use Rattle.css_yard.specs.Values.{Submit}
 use Rattle.css_history.specs.declared.entry.Entry.{Entry}
 use Rattle.css_history.specs.Histories.{submits}
-use Rattle.css_history.specs.Rules.{IsSubmit, AreReady}
+use Rattle.css_history.specs.Rules.{IsSubmit}
 use Rattle.css_history.specs.Bodies.{IsFound}
 use Rattle.css_board.specs.declared.job.Job.{Job}
 use Rattle.css_board.specs.declared.job.JobInput.{JobInput}
@@ -17,22 +17,14 @@ abbrev pub IsThere : (given : List (List ℕ)) → VersionName → Type 0
 IsThere given (names.Given place) = place < length given
 IsThere given (names.Made task out) = Unit {0}
 
--- The task of this number has a place among the submits, from a first number on.
+-- The task of this number has a place among the submits, from a first number on, and the buffers that its inputs name are given.
 pub record HasPlace (first : ℕ) (log : List Entry) (n : ℕ) : Type 0 where
   pub place : ℕ
   pub number : n ≡ first + place
   pub submit : Submit
   pub is_there : slice_get (submits log) place ≡ Some submit
   pub is_number : submit.rec.number ≡ n
-
--- And the buffers that its inputs name are given.
-pub record MayDraft (first : ℕ) (log : List Entry) (n : ℕ) : Type 0 where
-  pub at : HasPlace first log n
-  pub given : All (IsThere at.submit.given) at.submit.rec.inputs.items
-
--- the made inputs of a submitted task are finished
-abbrev pub HasReadyInputs : List Entry → (n : ℕ) → Type 0
-HasReadyInputs log n = (s : Submit) × IsSubmit log n s × AreReady log [] s.rec
+  pub given : All (IsThere submit.given) submit.rec.inputs.items
 
 module _ (log : List Entry) where
   -- the history has these bytes of the version, or none

@@ -2,11 +2,11 @@
 ghost use Rattle.std.specs.Prelude.{◌≡◌, ◌<◌, ◌++◌, All, IfOk, length, slice_get, Some};
 ghost use Rattle.css_board.specs.declared.post.Post.{Post as Desk};
 ghost use Rattle.css_board.specs.Cells.{AreKept};
-ghost use Rattle.css_board.specs.Drafts.{IsThere, MayDraft, IsInputDraft, AreInputDrafts, IsDraft, AreDrafts};
+ghost use Rattle.css_board.specs.Drafts.{IsThere, HasPlace, IsInputDraft, AreInputDrafts, IsDraft, AreDrafts};
 
 use crate::cell::Cell;
 use crate::job::{Job, JobInput, copy_record};
-use crate::lookup::{cell_at, value_of};
+use crate::lookup::{task_of, value_of};
 use crate::post::{Post, held_with};
 use css_base::{Buffer, NoMemory};
 use css_history::Entry;
@@ -64,25 +64,20 @@ fn job_of(
     number: u64,
 ) -> Result<Job, NoMemory>
     requires kept { AreKept first history.now cells.now }
-    requires may { MayDraft first history.now number }
+    requires place { HasPlace first history.now number }
     ensures { IfOk result (λ job. IsDraft history.now number job) }
 {
-    let cell = cell_at(cells, (number - first) as usize);
-    match &history[cell.submit] {
-        Entry::Submit { rec, given } => {
-            let inputs = inputs_of(
-                alloc,
-                history,
-                cells,
-                first,
-                given.as_slice(),
-                rec.inputs.as_slice(),
-            )?;
-            let rec = copy_record(alloc, rec)?;
-            Ok(Job { rec, inputs })
-        }
-        _ => unreachable!(),
-    }
+    let (rec, given) = task_of(history, cells, first, number);
+    let inputs = inputs_of(
+        alloc,
+        history,
+        cells,
+        first,
+        given.as_slice(),
+        rec.inputs.as_slice(),
+    )?;
+    let rec = copy_record(alloc, rec)?;
+    Ok(Job { rec, inputs })
 }
 
 /// The jobs of submitted tasks whose given buffers are there, in order.
@@ -94,7 +89,7 @@ fn jobs_of(
     numbers: &[u64],
 ) -> Result<Vec<Job>, NoMemory>
     requires kept { AreKept first history.now cells.now }
-    requires may { All (MayDraft first history.now) numbers.now }
+    requires places { All (HasPlace first history.now) numbers.now }
     ensures { IfOk result (λ v. AreDrafts history.now numbers.now v.items) }
 {
     let mut jobs = Vec::with_capacity(alloc, numbers.len())?;
@@ -116,7 +111,7 @@ pub(crate) fn readied(
     numbers: &[u64],
 ) -> Result<(Vec<u64>, Vec<Job>), NoMemory>
     requires kept { AreKept first history.now cells.now }
-    requires may { All (MayDraft first history.now) numbers.now }
+    requires places { All (HasPlace first history.now) numbers.now }
     requires worker { worker < length posts.now }
     ensures held { IfOk result (λ r. (p : Desk) × (slice_get posts.now worker ≡ Some p) × (r.0.items ≡ p.held.items ++ numbers.now)) }
     ensures drafts { IfOk result (λ r. AreDrafts history.now numbers.now r.1.items) }

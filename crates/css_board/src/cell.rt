@@ -1,10 +1,14 @@
 //! What the board has at hand of each task.
-ghost use Rattle.std.specs.Prelude.{◌≡◌, ◌≤◌, ◌<◌, ℕ, length, slice_get, Some, None, IfSome, IfNone, IsTrue, ◌↔◌};
+ghost use Rattle.std.specs.Prelude.{◌≡◌, ◌≢◌, ◌≤◌, ◌<◌, ℕ, List, length, slice_get, Some, None, IfSome, IfNone, IsTrue, ◌↔◌};
 ghost use Rattle.css_base.specs.declared.ending.Stop.{Stop as Cause};
+ghost use Rattle.css_record.specs.declared.task_record.TaskRecord.{TaskRecord as Told};
+ghost use Rattle.css_history.specs.declared.entry.Entry.TheVariants as entries;
 ghost use Rattle.css_board.specs.Cells.{with_end, IsFinishedCell, IsStopOf, end_at};
 
-use css_base::{Line, Stop};
+use css_base::{Buffer, Line, Stop};
 use css_history::Entry;
+use css_record::TaskRecord;
+use css_traces::Items;
 
 /// The places of the history at which a task was submitted, and at which it came to its end.
 #[derive(Clone, Copy)]
@@ -21,6 +25,20 @@ pub(crate) fn end_of<'a>(history: &'a [Entry], cell: Cell) -> Option<&'a Entry>
     match cell.end {
         Some(place) => history.get(place),
         None => None,
+    }
+}
+
+/// The record of a task, and the buffers that were given with it.
+pub(crate) fn submit_of<'a>(
+    history: &'a [Entry],
+    cell: Cell,
+) -> Option<(&'a TaskRecord, &'a Items<Buffer>)>
+    ensures some { IfSome result (λ r. slice_get history.now cell.submit ≡ Some (entries.Submit r.0.now r.1.now)) }
+    ensures none { IfNone result ((rec : Told) (given : List (List ℕ)) → slice_get history.now cell.submit ≢ Some (entries.Submit rec given)) }
+{
+    match history.get(cell.submit) {
+        Some(Entry::Submit { rec, given }) => Some((rec, given)),
+        _ => None,
     }
 }
 

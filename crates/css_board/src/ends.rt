@@ -1,11 +1,12 @@
 //! Whether a task may be said to have ended.
 ghost use Rattle.std.specs.Prelude.{◌≡◌, ◌↔◌, ◌<◌, [], All, IsTrue, Some, slice_get};
-ghost use Rattle.css_history.specs.Rules.{IsReady};
+ghost use Rattle.css_yard.specs.Values.{Submit as Task};
+ghost use Rattle.css_history.specs.Rules.{IsReady, IsSubmit, AreReady};
 ghost use Rattle.css_board.specs.Cells.{AreKept};
-ghost use Rattle.css_board.specs.Drafts.{HasPlace, HasReadyInputs};
+ghost use Rattle.css_board.specs.Drafts.{HasPlace};
 
 use crate::cell::Cell;
-use crate::lookup::{cell_at, outs_of};
+use crate::lookup::{outs_of, task_of};
 use css_history::Entry;
 use css_record::VersionName;
 
@@ -37,13 +38,8 @@ fn are_ready(history: &[Entry], cells: &[Cell], first: u64, versions: &[VersionN
 pub(crate) fn has_ready_inputs(history: &[Entry], cells: &[Cell], first: u64, number: u64) -> bool
     requires kept { AreKept first history.now cells.now }
     requires place { HasPlace first history.now number }
-    ensures { IsTrue result ↔ HasReadyInputs history.now number }
+    ensures { (s : Task) × IsSubmit history.now number s × (IsTrue result ↔ AreReady history.now [] s.rec) }
 {
-    let cell = cell_at(cells, (number - first) as usize);
-    match &history[cell.submit] {
-        Entry::Submit { rec, given: _ } => {
-            are_ready(history, cells, first, rec.inputs.as_slice())
-        }
-        _ => unreachable!(),
-    }
+    let (rec, _) = task_of(history, cells, first, number);
+    are_ready(history, cells, first, rec.inputs.as_slice())
 }

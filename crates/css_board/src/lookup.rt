@@ -1,13 +1,16 @@
 //! What the history says of the task of a number, without a walk.
-ghost use Rattle.std.specs.Prelude.{◌≡◌, ◌<◌, ℕ, List, length, slice_get, Some, IfSome, IfNone};
+ghost use Rattle.std.specs.Prelude.{◌≡◌, ◌<◌, ℕ, List, length, slice_get, All, Some, IfSome, IfNone};
+ghost use Rattle.css_history.specs.Rules.{IsSubmit};
+ghost use Rattle.css_board.specs.Drafts.{IsThere, HasPlace};
 ghost use Rattle.css_task.specs.Alone.{Outs};
 ghost use Rattle.css_history.specs.Histories.{Ended, standing, IsFinished};
 ghost use Rattle.css_board.specs.Cells.{AreKept, IsFinishedCell, IsFinishedWith, IsFoundMade};
 
-use crate::cell::{Cell, end_of};
+use crate::cell::{Cell, end_of, submit_of};
 use css_base::Buffer;
 use css_history::Entry;
-use css_record::VersionName;
+use css_record::{TaskRecord, VersionName};
+use css_traces::Items;
 
 /// What the task of a number was finished with.
 pub(crate) fn outs_of<'a>(
@@ -37,6 +40,25 @@ pub(crate) fn cell_at(cells: &[Cell], index: usize) -> Cell
     ensures { slice_get cells.now index ≡ Some result }
 {
     cells[index]
+}
+
+/// The record of a submitted task, and the buffers that were given with it.
+pub(crate) fn task_of<'a>(
+    history: &'a [Entry],
+    cells: &[Cell],
+    first: u64,
+    number: u64,
+) -> (&'a TaskRecord, &'a Items<Buffer>)
+    requires kept { AreKept first history.now cells.now }
+    requires place { HasPlace first history.now number }
+    ensures submit { IsSubmit history.now number (record { rec = result.0.now; given = result.1.now }) }
+    ensures there { All (IsThere result.1.now) result.0.now.inputs.items }
+{
+    let cell = cell_at(cells, (number - first) as usize);
+    match submit_of(history, cell) {
+        Some(task) => task,
+        None => unreachable!(),
+    }
 }
 
 /// What the task of a cell was finished with.
