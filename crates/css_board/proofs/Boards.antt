@@ -1,7 +1,6 @@
 -- A board, once its history has one entry more.
-use Rattle.std.proofs.Common.{Vec, Global, ◌≡◌, ◌≢◌, ◌⊎◌, ℕ, ◌+◌, ◌<◌, ◌≤◌, ◌^◌, ◌||◌, ◌==◌, Bool, true, false, true≢false, IsTrue, nat_eq, nat_lt, cond, not, List, [], ◌∷◌, ◌++◌, length, set, get_or, Some, None, slice_get, Contains, map, refl, ap, ap₂, sym, ◌∙◌, subst, inl, inr, arith, length-append}
-use Rattle.std.specs.List.{list_any, list_all, sum_by}
-use Rattle.std.specs.Arc.{arc_value}
+use Rattle.std.proofs.Common.{◌≡◌, ◌≢◌, ℕ, ◌+◌, ◌<◌, ◌≤◌, ◌^◌, ◌||◌, ◌==◌, Bool, true, false, true≢false, IsTrue, nat_eq, nat_lt, cond, not, List, [], ◌∷◌, ◌++◌, length, set, get_or, Some, None, slice_get, map, refl, ap, ap₂, sym, ◌∙◌, subst, inl, inr, arith, length-append}
+use Rattle.std.specs.List.{list_all}
 use Rattle.std.proofs.lemmas.Bool.{cases_Bool, cases_lt, eqb-true, eq-eqb}
 use Rattle.std.proofs.lemmas.List.Sums.{sum_by_more_le}
 use Rattle.std.proofs.lemmas.Option.{slice_get_within, get_or_from_slice_get}
@@ -29,12 +28,11 @@ use Rattle.css_history.specs.declared.fixed.Fixed.{Fixed}
 use Rattle.css_history.specs.Terms.{Terms, terms_of}
 use Rattle.css_history.specs.Histories.{maker, Waiting, Held, Ended, standing, submitted, submits, named, comes, without, held, closes, hungry, is_some_worker, is_worker, is_closed, is_starved, has_starved, IsFinished}
 use Rattle.css_history.specs.Rules.{IsSubmit, IsNext, AreReady, MayTake, MayEnd}
-use Rattle.css_history.specs.Bodies.{IsOfBody}
-use Rattle.css_history.specs.Legal.{MayFollow, Legal, IsLegal}
+use Rattle.css_history.specs.Legal.{MayFollow, Legal}
 use Rattle.css_history.proofs.Bools.{or_left, or_right}
-use Rattle.css_history.proofs.Histories.{held_more, any_more, is_named, not_named}
+use Rattle.css_history.proofs.Histories.{held_more, any_more}
 use Rattle.css_history.proofs.Numbers.{index_of, numbered, submit_of}
-use Rattle.css_history.proofs.Values.{are_submitted, values_are_own, first_stops}
+use Rattle.css_history.proofs.Values.{are_submitted, values_are_own}
 use Rattle.css_yard.proofs.Numbers.{one_submit}
 use Rattle.css_board.specs.Drafts.{HasPlace}
 use Rattle.css_board.proofs.Jobs.{has_place_of}
@@ -43,7 +41,7 @@ use Rattle.css_board.specs.declared.cell.Cell.{Cell}
 use Rattle.css_board.specs.declared.post.Post.{Post}
 use Rattle.css_board.specs.Graphs.{state_of, producers_of, task_of, tasks_of, graph_of}
 use Rattle.css_board.specs.Cells.{told_by, IsFinish, IsEndBy, with_end, AreCells, IsFront, IsFinishedCell, IsFoundMade, IsStopOf, AreKept}
-use Rattle.css_board.specs.Posts.{one_if_not, coming_of, coming, has_held, IsPost, ArePosts}
+use Rattle.css_board.specs.Posts.{one_if_not, coming_of, coming, IsPost}
 use Rattle.css_board.specs.Boards.{IsBoard, AreAllFinished}
 use Rattle.css_board.proofs.Graphs.{graph_named, graph_same, graph_submit, above_all, producers_added, out_number, all_out}
 use Rattle.css_board.proofs.Cells.{cells_same, cells_ended, cells_submit, stop_of, stopped_cell}

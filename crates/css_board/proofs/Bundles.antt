@@ -1,5 +1,5 @@
 -- The bundle of a history's graph may be taken.
-use Rattle.std.proofs.Common.{◌≡◌, ◌≢◌, ◌⊎◌, ℕ, zero, suc, ◌+◌, ◌-◌, ◌<◌, ◌==◌, ◌&&◌, ◌||◌, not, Bool, true, false, true≢false, cond, nat_lt, List, [], ◌∷◌, ◌++◌, length, map, take, get_or, Some, None, slice_get, Contains, All, refl, ap, sym, ◌∙◌, subst, inl, inr, arith, append_assoc}
+use Rattle.std.proofs.Common.{◌≡◌, ◌≢◌, ℕ, zero, suc, ◌-◌, ◌<◌, ◌==◌, ◌&&◌, ◌||◌, not, Bool, true, false, true≢false, nat_lt, List, [], ◌∷◌, ◌++◌, length, map, take, get_or, Some, slice_get, All, refl, ap, sym, ◌∙◌, subst, inl, inr, arith, append_assoc}
 use Rattle.std.specs.List.{filter, list_any, list_all}
 use Rattle.std.proofs.lemmas.Bool.{cases_Bool, and_parts, eqb-true, eq-eqb, ltb-true}
 use Rattle.std.proofs.lemmas.List.{append-nil}
@@ -7,17 +7,15 @@ use Rattle.std.proofs.lemmas.Option.{slice_get-get_or}
 use Rattle.css_base.specs.declared.ending.Stop.{Stop}
 use Rattle.css_record.specs.declared.version.VersionName.{VersionName}
 use Rattle.css_record.specs.declared.version.VersionName.TheVariants as names
-use Rattle.css_task.specs.Alone.{End, Outs, Halted}
-use Rattle.css_yard.specs.Values.{Submit}
+use Rattle.css_task.specs.Alone.{Outs, Halted}
 use Rattle.css_yard.proofs.Lists.{place_of, has_place, at_mapped, mapped_at}
-use Rattle.css_graph.specs.declared.state.TaskState.{TaskState}
-use Rattle.css_graph.specs.Tasks.{Task, TaskGraph, is_waiting, is_finished, is_stopped, is_among, some_task, is_number_finished, is_below_stops}
+use Rattle.css_graph.specs.Tasks.{Task, is_waiting, is_finished, is_stopped, is_among, is_number_finished, is_below_stops}
 use Rattle.css_graph.specs.Bundle.{AreDifferent, may_be_taken, takeable, in_turn, beginning, goes_on, following, next_number, continued, bundle}
 use Rattle.css_graph.proofs.Takeable.{among_append}
 use Rattle.css_history.specs.declared.entry.Entry.{Entry}
 use Rattle.css_history.specs.Terms.{Terms}
 use Rattle.css_history.specs.Histories.{submits, Standing, Waiting, Held, Ended, standing, IsFinished}
-use Rattle.css_history.specs.Rules.{IsSubmit, IsReady, AreReady, MayStand, MayTake}
+use Rattle.css_history.specs.Rules.{IsReady, MayStand, MayTake}
 use Rattle.css_history.specs.Legal.{Legal}
 use Rattle.css_history.proofs.Bools.{or_either, or_left, or_right, or_neither, both_false}
 use Rattle.css_history.proofs.Numbers.{submit_of}

@@ -1,8 +1,8 @@
 -- The cells of a board, once its history has one entry more.
-use Rattle.std.proofs.Common.{◌≡◌, ◌≢◌, ◌⊎◌, ℕ, ◌+◌, ◌<◌, ◌≤◌, Bool, true, false, true≢false, List, [], ◌∷◌, ◌++◌, length, set, get_or, Option, Some, None, slice_get, refl, ap, sym, ◌∙◌, subst, inl, inr, arith, length-append}
+use Rattle.std.proofs.Common.{◌≡◌, ◌≢◌, ℕ, ◌+◌, ◌<◌, true, false, List, [], ◌∷◌, ◌++◌, length, get_or, Option, Some, None, slice_get, refl, ap, sym, ◌∙◌, subst, inl, inr, arith, length-append}
 use Rattle.std.proofs.Math.ListN.{length-set}
 use Rattle.std.proofs.lemmas.Bool.{cases_Bool, eq-eqb}
-use Rattle.std.proofs.lemmas.Option.{slice_get_within, slice_get-get_or, get_or_from_slice_get}
+use Rattle.std.proofs.lemmas.Option.{slice_get-get_or}
 use Rattle.css_base.specs.declared.ending.Stop.{Stop}
 use Rattle.css_record.specs.declared.task_record.TaskRecord.{TaskRecord}
 use Rattle.css_task.specs.Alone.{End, Outs, Halted}
@@ -12,10 +12,9 @@ use Rattle.css_graph.specs.Tasks.{is_among}
 use Rattle.css_history.specs.declared.entry.Entry.{Entry}
 use Rattle.css_history.specs.declared.entry.Entry.TheVariants as entries
 use Rattle.css_history.specs.Terms.{Terms}
-use Rattle.css_history.specs.Histories.{submitted, submits, Standing, Waiting, Held, Ended, named, comes, standing, IsFinished}
-use Rattle.css_history.specs.Rules.{IsNext}
+use Rattle.css_history.specs.Histories.{submitted, submits, Waiting, Ended, named, comes, standing, IsFinished}
 use Rattle.css_history.specs.Legal.{MayFollow, Legal}
-use Rattle.css_history.proofs.Bools.{among_one, not_among_one}
+use Rattle.css_history.proofs.Bools.{not_among_one}
 use Rattle.css_history.proofs.Histories.{submits_more, submits_same, not_named, is_named}
 use Rattle.css_history.proofs.Standings.{ended_lasts}
 use Rattle.css_history.proofs.Numbers.{next_waits}

@@ -1,5 +1,5 @@
 -- A copy of a record is of the same task, and comes to the same.
-use Rattle.std.proofs.Common.{◌≡◌, ◌≤◌, ℕ, List, length, map, filter, Some, All, slice_get, ap, ap₂, sym, ◌∙◌, subst, arith}
+use Rattle.std.proofs.Common.{◌≡◌, ℕ, List, length, map, filter, Some, All, slice_get, ap, ap₂, sym, ◌∙◌, subst, arith}
 use Rattle.css_base.specs.declared.limits.Limits.{Limits}
 use Rattle.css_record.specs.declared.task_record.TaskRecord.{TaskRecord}
 use Rattle.css_record.specs.Windows.{window}

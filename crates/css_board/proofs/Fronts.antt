@@ -1,20 +1,20 @@
 -- The front of a board, once its history has one entry more.
-use Rattle.std.proofs.Common.{◌≡◌, ◌≢◌, ◌⊎◌, ℕ, ◌+◌, ◌<◌, ◌≤◌, List, [], ◌∷◌, ◌++◌, length, Some, None, slice_get, refl, ap, sym, ◌∙◌, subst, inl, inr, arith, length-append}
+use Rattle.std.proofs.Common.{◌≡◌, ℕ, ◌+◌, ◌<◌, ◌≤◌, List, [], ◌∷◌, ◌++◌, length, Some, None, slice_get, refl, ap, ◌∙◌, subst, inl, inr, arith, length-append}
 use Rattle.std.proofs.lemmas.Bool.{cases_lt}
 use Rattle.css_record.specs.declared.task_record.TaskRecord.{TaskRecord}
-use Rattle.css_task.specs.Alone.{End, Outs, Halted}
+use Rattle.css_task.specs.Alone.{Outs}
 use Rattle.css_yard.proofs.Lists.{is_within}
 use Rattle.css_history.specs.declared.entry.Entry.{Entry}
 use Rattle.css_history.specs.declared.entry.Entry.TheVariants as entries
 use Rattle.css_history.specs.Terms.{Terms}
-use Rattle.css_history.specs.Histories.{submitted, submits, Standing, Waiting, Ended, standing, IsFinished}
+use Rattle.css_history.specs.Histories.{submitted, submits, Waiting, Ended, standing, IsFinished}
 use Rattle.css_history.specs.Legal.{MayFollow, Legal}
 use Rattle.css_history.proofs.Histories.{submits_more, submits_same}
 use Rattle.css_history.proofs.Facts.{finished_lasts}
 use Rattle.css_history.proofs.Numbers.{next_waits}
 use Rattle.css_board.specs.declared.cell.Cell.{Cell}
 use Rattle.css_board.specs.Cells.{told_by, IsFinishedCell, AreCells, IsFront}
-use Rattle.css_board.proofs.Cells.{EndsNot, ends_none, cell_finished, finished_cell}
+use Rattle.css_board.proofs.Cells.{ends_none, cell_finished, finished_cell}
 
 module _ (b : Terms) (log : List Entry) (e : Entry) (legal : Legal b log) (may : MayFollow b log e) where
   abbrev longer : List Entry

@@ -1,6 +1,6 @@
 -- The graph of a history's tasks, once it has one entry more.
-use Rattle.std.proofs.Common.{◌≡◌, ◌≢◌, ◌⊎◌, ℕ, zero, suc, ◌+◌, ◌<◌, ◌==◌, ◌&&◌, ◌||◌, Bool, true, false, true≢false, cond, nat_lt, List, [], ◌∷◌, ◌++◌, length, map, Some, None, slice_get, Contains, refl, ap, ap₂, sym, ◌∙◌, subst, inl, inr, arith}
-use Rattle.std.specs.List.{list_any, list_all}
+use Rattle.std.proofs.Common.{◌≡◌, ◌≢◌, ℕ, zero, suc, ◌<◌, ◌==◌, ◌&&◌, Bool, true, false, cond, nat_lt, List, [], ◌∷◌, ◌++◌, map, Some, slice_get, Contains, refl, ap, ap₂, sym, ◌∙◌, subst, inl, inr, arith}
+use Rattle.std.specs.List.{list_all}
 use Rattle.std.proofs.lemmas.Bool.{cases_Bool, and_from, eq-eqb, lt-ltb}
 use Rattle.std.proofs.lemmas.List.{map-append}
 use Rattle.std.proofs.lemmas.Option.{slice_get_within}
@@ -9,21 +9,19 @@ use Rattle.css_record.specs.declared.version.VersionName.{VersionName}
 use Rattle.css_record.specs.declared.version.VersionName.TheVariants as names
 use Rattle.css_record.specs.Records.{uses}
 use Rattle.css_semantics.specs.Tasks.{Use}
-use Rattle.css_task.specs.Alone.{End, Outs, Halted}
 use Rattle.css_yard.specs.Values.{Submit}
 use Rattle.css_yard.specs.Yards.{MaySubmit, FitsInput, reading}
 use Rattle.css_yard.proofs.Lists.{place_of, is_within}
 use Rattle.css_yard.proofs.OneEnd.{task_of as of_code}
 use Rattle.css_graph.specs.declared.state.TaskState.{TaskState}
-use Rattle.css_graph.specs.declared.state.TaskState.TheVariants as states
-use Rattle.css_graph.specs.Tasks.{Task, TaskGraph, is_among, is_out, some_task, is_number_added, is_number_out, come_to, with_task, where_come}
+use Rattle.css_graph.specs.Tasks.{Task, is_among, is_out, some_task, is_number_added, is_number_out, come_to, with_task, where_come}
 use Rattle.css_graph.specs.Bundle.{AreDifferent}
 use Rattle.css_graph.proofs.Following.{fresh_differs}
 use Rattle.css_graph.proofs.Numbers.{list_all_append}
 use Rattle.css_history.specs.declared.entry.Entry.{Entry}
 use Rattle.css_history.specs.declared.entry.Entry.TheVariants as entries
 use Rattle.css_history.specs.Terms.{Terms}
-use Rattle.css_history.specs.Histories.{submitted, submits, Standing, Waiting, Held, Ended, named, comes, standing, held}
+use Rattle.css_history.specs.Histories.{submitted, submits, Standing, Waiting, Held, named, comes, standing, held}
 use Rattle.css_history.specs.Rules.{IsSubmit, IsNext}
 use Rattle.css_history.specs.Legal.{Legal}
 use Rattle.css_history.proofs.Bools.{or_left, or_right}

@@ -1,5 +1,5 @@
 -- The jobs of tasks that are taken together.
-use Rattle.std.proofs.Common.{◌≡◌, ◌≢◌, ◌⊎◌, ℕ, zero, suc, ◌+◌, ◌-◌, ◌<◌, ◌≤◌, ◌||◌, Bool, true, false, List, [], ◌∷◌, ◌++◌, length, take, All, Some, slice_get, Contains, refl, ap, ap₂, sym, ◌∙◌, subst, inl, inr, arith}
+use Rattle.std.proofs.Common.{◌≡◌, ◌≢◌, ℕ, suc, ◌+◌, ◌-◌, true, List, [], ◌∷◌, ◌++◌, length, take, All, Some, slice_get, Contains, refl, ap, ap₂, sym, ◌∙◌, subst, inl, inr, arith}
 use Rattle.std.proofs.lemmas.List.Elements.{All-nil, All-cons, All-head, All-tail, All-push, Contains-append_left}
 use Rattle.std.proofs.lemmas.List.{take-append-drop, take_more}
 use Rattle.std.proofs.lemmas.Option.{slice_get_within, get_or_from_slice_get}
@@ -8,11 +8,9 @@ use Rattle.css_record.specs.declared.version.VersionName.{VersionName}
 use Rattle.css_record.specs.declared.version.VersionName.TheVariants as names
 use Rattle.css_record.specs.Records.{uses}
 use Rattle.css_semantics.specs.Tasks.{Use, window_length}
-use Rattle.css_vm.specs.Code.{Code}
-use Rattle.css_task.specs.Alone.{End, Outs, IsAlone}
-use Rattle.css_yard.specs.Values.{Submit, Ends, IsValue, Alone}
+use Rattle.css_task.specs.Alone.{Outs, IsAlone}
+use Rattle.css_yard.specs.Values.{Submit, Ends, Alone}
 use Rattle.css_yard.specs.Yards.{IsMade, FitsInput, MaySubmit, reading}
-use Rattle.css_yard.specs.Submits.{AreSubmitted}
 use Rattle.css_yard.proofs.Lists.{place_of, has_place, is_within, all_at}
 use Rattle.css_yard.proofs.Numbers.{one_submit}
 use Rattle.css_yard.proofs.OneEnd.{task_of}

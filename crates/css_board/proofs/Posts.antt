@@ -1,11 +1,11 @@
 -- The posts of a board, once its history has one entry more.
-use Rattle.std.proofs.Common.{Vec, Global, ◌≡◌, ◌≢◌, ◌⊎◌, ℕ, ◌+◌, ◌<◌, ◌≤◌, ◌||◌, Bool, true, false, List, [], ◌∷◌, ◌++◌, length, set, get_or, Some, slice_get, refl, ap, sym, ◌∙◌, subst, inl, inr, arith}
-use Rattle.std.specs.List.{list_any, sum_by}
+use Rattle.std.proofs.Common.{◌≡◌, ◌≢◌, ℕ, ◌+◌, ◌||◌, Bool, true, false, List, [], ◌∷◌, ◌++◌, set, get_or, Some, slice_get, refl, ap, sym, ◌∙◌, subst, inl, inr, arith}
+use Rattle.std.specs.List.{list_any}
 use Rattle.std.proofs.Math.ListN.{length-set}
 use Rattle.std.proofs.lemmas.List.Sums.{sum_by-set}
 use Rattle.std.proofs.lemmas.Option.{slice_get_within, get_or_from_slice_get}
 use Rattle.css_history.specs.declared.entry.Entry.{Entry}
-use Rattle.css_history.specs.Histories.{maker, hungry, is_worker, held, has_starved}
+use Rattle.css_history.specs.Histories.{maker, hungry, is_worker, has_starved}
 use Rattle.css_history.proofs.Histories.{held_same, any_more, other_fed}
 use Rattle.css_board.specs.declared.post.Post.{Post}
 use Rattle.css_board.specs.Posts.{coming_of, coming, IsPost, ArePosts}

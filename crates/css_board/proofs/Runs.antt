@@ -1,22 +1,21 @@
 -- The run of a job, and that a job stays one.
-use Rattle.std.proofs.Common.{◌≡◌, ◌<◌, ℕ, zero, suc, List, [], ◌∷◌, ◌++◌, length, map, take, Some, Contains, slice_get, refl, ap, ap₂, sym, ◌∙◌, subst, arith}
+use Rattle.std.proofs.Common.{◌≡◌, ℕ, zero, suc, List, [], ◌∷◌, ◌++◌, length, map, take, Some, Contains, slice_get, refl, ap, ap₂, sym, ◌∙◌, subst, arith}
 use Rattle.std.proofs.lemmas.Option.{slice_get_within}
 use Rattle.css_record.specs.declared.version.VersionName.{VersionName}
 use Rattle.css_record.specs.declared.version.VersionName.TheVariants as names
 use Rattle.css_record.specs.Records.{uses}
 use Rattle.css_semantics.specs.Tasks.{Use, window_length}
-use Rattle.css_vm.specs.Code.{Routine, Shape}
-use Rattle.css_task.specs.Alone.{End, Outs, TaskOf, InputsOf}
+use Rattle.css_task.specs.Alone.{Outs, InputsOf}
 use Rattle.css_task.proofs.OneTask.{one_shape}
 use Rattle.css_yard.specs.Values.{Submit}
-use Rattle.css_yard.specs.Yards.{FitsInput, AgreeAsInputs, AreInputs, MaySubmit, reading}
+use Rattle.css_yard.specs.Yards.{FitsInput, AgreeAsInputs, AreInputs, reading}
 use Rattle.css_yard.proofs.Lists.{is_within, at_mapped}
 use Rattle.css_yard.proofs.OneEnd.{task_of}
 use Rattle.css_seen.proofs.Lasting.{legal_more, still_lasts}
 use Rattle.css_history.specs.declared.entry.Entry.{Entry}
 use Rattle.css_history.specs.Terms.{Terms}
-use Rattle.css_history.specs.Histories.{maker, submits, Ended, standing}
-use Rattle.css_history.specs.Bodies.{IsFound, AreFound, IsOfBody}
+use Rattle.css_history.specs.Histories.{maker, submits, Ended}
+use Rattle.css_history.specs.Bodies.{IsFound, AreFound}
 use Rattle.css_history.specs.Legal.{MayFollow, Legal}
 use Rattle.css_history.proofs.Histories.{still_submit}
 use Rattle.css_history.proofs.Facts.{found_lasts}
@@ -25,7 +24,7 @@ use Rattle.css_board.specs.declared.job.Job.{Job}
 use Rattle.css_board.specs.declared.job.JobInput.{JobInput}
 use Rattle.css_board.specs.declared.job.JobInput.TheVariants as inputs
 use Rattle.css_board.specs.Jobs as jobs
-use Rattle.css_board.specs.Runs.{AreRead, IsRun, JobsRemain, JobsAreRun}
+use Rattle.css_board.specs.Runs.{AreRead, JobsRemain, JobsAreRun}
 use Rattle.css_board.proofs.Jobs.{may_be, made_found, made_before}
 use Rattle.css_board.proofs.Copies.{fits_copy, plain_copy, inputs_copy, alone_copy}
 

@@ -1,9 +1,8 @@
 -- The dependence graph of a history's tasks.
 use Rattle.std.specs.Prelude.{ℕ, List, [], ◌∷◌, ◌++◌, map, if◌then◌else◌}
-use Rattle.css_record.specs.declared.task_record.TaskRecord.{TaskRecord}
 use Rattle.css_record.specs.declared.version.VersionName.{VersionName}
 use Rattle.css_record.specs.declared.version.VersionName.TheVariants as names
-use Rattle.css_task.specs.Alone.{End, Outs, Halted}
+use Rattle.css_task.specs.Alone.{Outs, Halted}
 use Rattle.css_yard.specs.Values.{Submit}
 use Rattle.css_graph.specs.declared.state.TaskState.{TaskState}
 use Rattle.css_graph.specs.declared.state.TaskState.TheVariants as states

@@ -1,5 +1,5 @@
 -- What the board has at hand of each worker, which is what the history says.
-use Rattle.std.specs.Prelude.{◌≡◌, ◌+◌, ℕ, Bool, true, false, List, length, Some, slice_get, if◌then◌else◌}
+use Rattle.std.specs.Prelude.{◌≡◌, ◌+◌, ℕ, Bool, List, length, Some, slice_get, if◌then◌else◌}
 use Rattle.std.specs.List.{sum_by}
 use Rattle.std.proofs.Common.{Vec, Global}
 use Rattle.css_history.specs.declared.entry.Entry.{Entry}

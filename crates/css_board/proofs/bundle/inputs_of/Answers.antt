@@ -1,4 +1,3 @@
-use Rattle.std.proofs.Common.{◌<◌, length, arith}
 use Rattle.std.proofs.lemmas.Option.{slice_get-get_or}
 use Rattle.css_board.proofs.Jobs.{next_input}
 use Rattle.css_board.proofs.bundle.inputs_of.Goals as goal

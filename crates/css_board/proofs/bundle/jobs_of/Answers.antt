@@ -1,4 +1,4 @@
-use Rattle.std.proofs.Common.{◌<◌, length, get_or, arith}
+use Rattle.std.proofs.Common.{get_or}
 use Rattle.std.proofs.lemmas.Option.{slice_get-get_or}
 use Rattle.css_board.proofs.Jobs.{next_draft}
 use Rattle.css_board.proofs.bundle.jobs_of.Goals as goal

@@ -1,4 +1,4 @@
-use Rattle.std.proofs.Common.{◌≡◌, ◌<◌, ◌≤◌, [], List, All, length, get_or, true, IsTrue, refl, subst}
+use Rattle.std.proofs.Common.{[], All, get_or, refl, subst}
 use Rattle.std.proofs.lemmas.List.{take_all}
 use Rattle.std.proofs.lemmas.Option.{slice_get-get_or}
 use Rattle.css_record.specs.declared.version.VersionName.TheVariants as names

@@ -1,5 +1,4 @@
-use Rattle.std.proofs.Common.{◌≡◌, ◌<◌, ◌+◌, ◌-◌, ℕ, length, Some, slice_get, arith, refl}
-use Rattle.std.proofs.lemmas.Option.{slice_get_read}
+use Rattle.std.proofs.Common.{◌≡◌, ◌+◌, ◌-◌, ℕ, arith}
 use Rattle.css_task.specs.Alone.{Outs}
 use Rattle.css_history.specs.Histories.{Ended, standing, IsFinished}
 use Rattle.css_board.specs.Cells.{IsFinishedCell, IsFinishedWith}

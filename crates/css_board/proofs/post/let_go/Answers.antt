@@ -1,7 +1,6 @@
-use Rattle.std.proofs.Common.{rules, refl, length, slice_get}
+use Rattle.std.proofs.Common.{rules, refl, length}
 use Rattle.std.proofs.lemmas.Option.{slice_get_read}
 use Rattle.std.proofs.lemmas.Fn.{filter_same}
-use Rattle.css_board.specs.declared.post.Post.{Post}
 use Rattle.css_board.proofs.post.let_go.Goals as goal
 
 pub returns : goal.returns

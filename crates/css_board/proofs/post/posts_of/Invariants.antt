@@ -1,4 +1,4 @@
-use Rattle.std.proofs.Common.{◌≡◌, ◌≤◌, ◌+◌, ◌-◌, false, [], length, All, vec_capacity}
+use Rattle.std.proofs.Common.{◌≡◌, ◌≤◌, false, [], length, All, vec_capacity}
 use Rattle.css_board.specs.declared.post.Post.{Post}
 use Rattle.css_board.specs.Posts.{coming}
 use Rattle.css_board.proofs.post.posts_of.Given as goal

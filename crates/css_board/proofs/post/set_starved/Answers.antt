@@ -1,4 +1,4 @@
-use Rattle.std.proofs.Common.{rules, refl, length, slice_get}
+use Rattle.std.proofs.Common.{refl, length}
 use Rattle.std.proofs.lemmas.Option.{slice_get_read}
 use Rattle.css_board.proofs.post.set_starved.Goals as goal
 

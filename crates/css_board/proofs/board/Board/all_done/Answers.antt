@@ -1,6 +1,4 @@
-use Rattle.std.proofs.Common.{◌≡◌, ℕ, length, vec_capacity, arith, sym, ◌∙◌}
-use Rattle.std.proofs.lemmas.Bool.{cases_Bool}
-use Rattle.css_board.proofs.Bundles.{bundle_may}
+use Rattle.std.proofs.Common.{vec_capacity, arith}
 use Rattle.css_board.proofs.Boards.{done_is}
 use Rattle.css_board.proofs.board.Board.all_done.Goals as goal
 

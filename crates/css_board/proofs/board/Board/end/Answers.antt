@@ -1,6 +1,5 @@
 use Rattle.css_board.specs.Boards.{State}
-use Rattle.std.proofs.Common.{◌≡◌, ◌≤◌, ◌<◌, ◌+◌, ◌-◌, ℕ, [], ◌∷◌, ◌++◌, length, vec_capacity, arith, ap, refl, sym, ◌∙◌, subst}
-use Rattle.css_history.specs.declared.entry.Entry.{Entry}
+use Rattle.std.proofs.Common.{◌≡◌, ◌+◌, ◌-◌, ℕ, length, vec_capacity, arith, ap, sym, ◌∙◌, subst}
 use Rattle.css_history.specs.Terms.{terms_of}
 use Rattle.css_history.specs.Rules.{MayEnd}
 use Rattle.css_history.specs.Legal.{MayFollow}

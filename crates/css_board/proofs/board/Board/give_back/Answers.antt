@@ -1,10 +1,8 @@
 use Rattle.css_board.specs.Boards.{State}
-use Rattle.std.proofs.Common.{◌≡◌, ◌≢◌, [], vec_capacity, arith, ap, refl, sym, ◌∙◌, subst}
-use Rattle.std.specs.List.{list_all}
-use Rattle.css_graph.specs.Tasks.{is_number_out}
+use Rattle.std.proofs.Common.{◌≢◌, [], vec_capacity, arith, ap, refl, sym, subst}
 use Rattle.css_history.specs.Histories.{held}
 use Rattle.css_board.specs.Posts.{has_held}
-use Rattle.css_board.proofs.Boards.{board_back, room_left, post_at, holds_some, held_out}
+use Rattle.css_board.proofs.Boards.{board_back, room_left, holds_some, held_out}
 use Rattle.css_board.proofs.board.Board.give_back.Goals as goal
 
 pub back-requires : goal.back-requires

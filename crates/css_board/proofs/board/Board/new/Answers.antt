@@ -1,4 +1,4 @@
-use Rattle.std.proofs.Common.{◌≡◌, ◌≤◌, ◌+◌, ℕ, false, [], length, Some, slice_get, vec_capacity, arith, ap, refl, sym}
+use Rattle.std.proofs.Common.{◌≡◌, false, [], vec_capacity}
 use Rattle.css_yard.proofs.Lists.{all_at}
 use Rattle.css_board.specs.declared.post.Post.{Post}
 use Rattle.css_board.proofs.Boards.{board_new}

@@ -1,8 +1,7 @@
 use Rattle.css_board.specs.Boards.{State}
-use Rattle.std.proofs.Common.{◌≡◌, false, vec_capacity, arith, ap, sym, subst}
+use Rattle.std.proofs.Common.{◌≡◌, false, vec_capacity, arith, sym, subst}
 use Rattle.css_history.specs.Histories.{has_starved}
-use Rattle.css_board.specs.Posts.{one_if_not}
-use Rattle.css_board.proofs.Boards.{board_starve, room_left, post_at, fed_some}
+use Rattle.css_board.proofs.Boards.{board_starve, room_left, fed_some}
 use Rattle.css_board.proofs.board.Board.starve.Goals as goal
 
 pub push_reserved-requires : goal.push_reserved-requires

@@ -1,18 +1,14 @@
 use Rattle.css_board.specs.Boards.{State}
-use Rattle.std.proofs.Common.{rules, ◌≡◌, ◌≤◌, ◌<◌, ◌+◌, ◌^◌, ◌∷◌, [], ◌++◌, ℕ, None, length, vec_capacity, arith, ap, refl, sym, ◌∙◌, subst}
+use Rattle.std.proofs.Common.{rules, ◌≡◌, ◌∷◌, [], ◌++◌, ℕ, None, length, vec_capacity, arith, ap, sym, ◌∙◌, subst}
 use Rattle.std.specs.Arc.{arc_value}
-use Rattle.std.specs.List.{list_all}
 use Rattle.css_vm.specs.Code.{code_of}
-use Rattle.css_graph.specs.Tasks.{TaskGraph, is_number_added}
-use Rattle.css_graph.specs.Bundle.{AreDifferent}
 use Rattle.css_yard.specs.Yards.{MaySubmit}
 use Rattle.css_history.specs.declared.entry.Entry.TheVariants as entries
-use Rattle.css_history.specs.Terms.{terms_of}
 use Rattle.css_history.specs.Histories.{submits}
 use Rattle.css_history.specs.Rules.{IsNext}
 use Rattle.css_board.specs.Posts.{coming}
 use Rattle.css_board.specs.Graphs.{producers_of}
-use Rattle.css_board.proofs.Boards.{board_submit, more_room, above_tasks, added_tasks}
+use Rattle.css_board.proofs.Boards.{board_submit, above_tasks, added_tasks}
 use Rattle.css_board.proofs.Graphs.{producers_differ}
 use Rattle.css_board.proofs.board.Board.submit.Goals as goal
 

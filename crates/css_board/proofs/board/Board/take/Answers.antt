@@ -1,8 +1,7 @@
-use Rattle.std.proofs.Common.{◌≡◌, ◌≤◌, ◌<◌, ◌+◌, ◌^◌, ◌∷◌, [], ◌++◌, ℕ, List, length, vec_capacity, true, Some, slice_get, All, arith, ap, refl, sym, ◌∙◌, subst}
-use Rattle.std.specs.List.{list_all}
+use Rattle.std.proofs.Common.{◌≡◌, ◌≤◌, ◌∷◌, [], ◌++◌, ℕ, List, length, vec_capacity, Some, arith, ap, refl, sym, ◌∙◌, subst}
 use Rattle.css_graph.specs.declared.chosen.Chosen.{Chosen}
 use Rattle.css_graph.specs.declared.state.TaskState.TheVariants as states
-use Rattle.css_graph.specs.Tasks.{TaskGraph, where_come, is_number_out}
+use Rattle.css_graph.specs.Tasks.{TaskGraph, where_come}
 use Rattle.css_graph.specs.Bundle.{AreDifferent, bundle, IfBundle}
 use Rattle.css_history.specs.declared.entry.Entry.{Entry}
 use Rattle.css_history.specs.declared.entry.Entry.TheVariants as entries
@@ -14,7 +13,7 @@ use Rattle.css_board.specs.Drafts.{AreDrafts}
 use Rattle.css_history.specs.Legal.{MayFollow}
 use Rattle.css_board.specs.Graphs.{graph_of}
 use Rattle.css_board.specs.Jobs.{AreJobs}
-use Rattle.css_board.specs.Boards.{State, graph, IsBoard}
+use Rattle.css_board.specs.Boards.{State, graph}
 use Rattle.css_board.proofs.Jobs.{have_places, jobs_are}
 use Rattle.css_board.proofs.Boards.{takes, restored, out_after, board_take, more_room, kept_is}
 use Rattle.css_board.proofs.board.Board.take.Goals as goal
