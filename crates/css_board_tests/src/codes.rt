@@ -81,16 +81,16 @@ fn idle_body(alloc: Global) -> Result<Vec<Instr>, NoMemory>
 fn parts_of(alloc: Global, count: u32) -> Result<Vec<ArgShape>, NoMemory>
     ensures { IfOk result (λ v. v.items ≡ parts count) }
 {
-    let mut args = Vec::new(alloc);
+    let mut all = Vec::new(alloc);
     for _ in 0..count {
-        args.push(ArgShape::Window {
+        all.push(ArgShape::Window {
             direction: Direction::InOut,
             element: 4,
             dims: 0,
             strided: false,
         })?;
     }
-    Ok(args)
+    Ok(all)
 }
 
 fn main_function(alloc: Global) -> Result<Function, NoMemory>

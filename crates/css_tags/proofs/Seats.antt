@@ -2,11 +2,9 @@
 use Rattle.std.proofs.Common.{◌≡◌, ◌≢◌, ◌⊎◌, ◌<◌, ℕ, suc, eqb, Option, Some, None, List, [], ◌∷◌, ◌++◌, All, arith, refl, sym, ap, ap₂, ◌∙◌, subst, inl, inr, append_assoc}
 use Rattle.std.specs.List.{flat_map, last_or}
 use Rattle.std.proofs.lemmas.Bool.{cases_eq}
-use Rattle.std.proofs.lemmas.List.{append-nil}
 use Rattle.std.proofs.lemmas.List.Elements.{All-head, filter-append}
 use Rattle.css_place.proofs.Insertions.{All-left}
-use mathlib.Core.List.{IsPrefix}
-use Rattle.css_seen.specs.Facts.{OthersAdd, Stays}
+use Rattle.css_seen.specs.Facts.{Stays}
 use Rattle.css_seen.specs.Legal.{LegalAfter, Legal}
 use Rattle.css_seen.proofs.Lasting.{still}
 use Rattle.css_tags.specs.declared.entry.Step.{Step}

@@ -5,7 +5,7 @@ use Rattle.css_seen.specs.Legal.{Legal}
 use Rattle.css_tags.specs.declared.entry.Step.{Step}
 use Rattle.css_tags.specs.declared.entry.Step.TheVariants as steps
 use Rattle.css_tags.specs.Plans.{Plan}
-use Rattle.css_tags.specs.Entries.{Entry, issue, out, finish, collect}
+use Rattle.css_tags.specs.Entries.{Entry, issue, out, finish}
 use Rattle.css_tags.specs.Legal.{ChannelLegal}
 use Rattle.css_tags.specs.States.{last_on, IsFree}
 
