@@ -75,10 +75,10 @@ module _ (fs : List Function) where
   abbrev pub unused : (line : ℕ) → Expression → List Piece
   unused line e = pieces_of (map signature fs) called Unused line 0 e
 
-  abbrev pub choice : (line : ℕ) → Expression → (yes no : Piece) → List Piece
+  abbrev pub choice : (line : ℕ) → Expression → (first second : Piece) → List Piece
   choice = tests.choice (map signature fs) called
 
-  abbrev pub when : (line : ℕ) → Expression → (yes : Piece) → List Piece
+  abbrev pub when : (line : ℕ) → Expression → (first : Piece) → List Piece
   when = tests.when (map signature fs) called
 
   abbrev pub unless : (line : ℕ) → Way → Expression → List Piece

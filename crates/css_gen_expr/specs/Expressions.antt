@@ -57,14 +57,14 @@ truth_code false true = []
 truth_code false false = isnt_zero
 
 -- behind the cell of a test: a piece for each way
-abbrev pub sides : (turned : Bool) → (line : ℕ) → (yes no : Piece) → Piece
-sides false line yes no = pieces.Choice line yes no
-sides true line yes no = pieces.Choice line no yes
+abbrev pub sides : (turned : Bool) → (line : ℕ) → (first second : Piece) → Piece
+sides false line first second = pieces.Choice line first second
+sides true line first second = pieces.Choice line second first
 
 -- or one for the one alone
-abbrev pub side : (turned : Bool) → (line : ℕ) → (yes : Piece) → Piece
-side false line yes = When line yes
-side true line yes = pieces.Choice line Skip yes
+abbrev pub side : (turned : Bool) → (line : ℕ) → (first : Piece) → Piece
+side false line first = When line first
+side true line first = pieces.Choice line Skip first
 
 -- ---- updates
 

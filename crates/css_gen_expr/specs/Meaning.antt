@@ -1,5 +1,5 @@
 -- What an expression's code owes: that it means what the expression means, whatever comes behind it.
-use Rattle.std.specs.Prelude.{◌≡◌, ℕ, ◌<◌, ◌^◌, ℤ, pos, Bool, true, List, [], ◌∷◌, ◌++◌, if◌then◌else◌, IsTrue, map, slice_get, Option, Some}
+use Rattle.std.specs.Prelude.{◌≡◌, ℕ, suc, ◌<◌, ◌^◌, ℤ, pos, Bool, true, List, [], ◌∷◌, ◌++◌, if◌then◌else◌, IsTrue, map, slice_get, Option, Some}
 use Rattle.css_semantics.specs.Dialogue.{World, Tape, Outcome, Goes, then_do, Mode, Plain, Waiting, Measuring}
 use Rattle.css_core.specs.Core.{Expression, Function}
 use Rattle.css_core.specs.Typed.{Signature, signature, HasType, IsTyped}

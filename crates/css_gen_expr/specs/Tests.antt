@@ -18,13 +18,13 @@ module _ (signatures : List Signature) (called : (line function count : ℕ) →
   tested line e = pieces_of signatures called Tested line 0 e
 
   -- one of two pieces
-  abbrev pub choice : (line : ℕ) → Expression → (yes no : Piece) → List Piece
-  choice line e yes no = tested line e ++ sides (is_turned e) line yes no ∷ []
+  abbrev pub choice : (line : ℕ) → Expression → (first second : Piece) → List Piece
+  choice line e first second = tested line e ++ sides (is_turned e) line first second ∷ []
 
   -- a piece where the condition holds
-  abbrev pub when : (line : ℕ) → Expression → (yes : Piece) → List Piece
-  when line (And a b) yes = when line a (row (when line b yes))
-  when line e yes = tested line e ++ side (is_turned e) line yes ∷ []
+  abbrev pub when : (line : ℕ) → Expression → (first : Piece) → List Piece
+  when line (And a b) first = when line a (row (when line b first))
+  when line e first = tested line e ++ side (is_turned e) line first ∷ []
 
   -- a way out where it doesn't
   abbrev pub unless : (line : ℕ) → Way → Expression → List Piece
