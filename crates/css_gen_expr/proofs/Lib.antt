@@ -1,3 +1,5 @@
 pub mod Cells
 pub mod CellsExact
 pub mod CellsBits
+pub mod Ranges
+pub mod Operators

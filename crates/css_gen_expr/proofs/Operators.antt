@@ -1,7 +1,9 @@
 -- What the instructions of operators and conversions do.
 use Rattle.std.proofs.Common.{◌≡◌, ℕ, ◌+◌, ◌*◌, ◌/◌, ◌%◌, ◌^◌, ◌<◌, ◌≤◌, ℤ, pos, negsuc, ◌+ℤ◌, ◌*ℤ◌, Bool, true, false, not, ◌&&◌, ◌||◌, nat_eq, int_lt, int_le, int_eq, int_div, if◌then◌else◌, List, [], ◌∷◌, ◌++◌, Option, Some, None, bit_and, bit_or, bit_xor, refl, sym, ap, ◌∙◌, subst, arith, lit≤, lit<}
 use Rattle.std.proofs.lemmas.Nat.{pow_pos, and_mask, mod_below}
+use Rattle.std.proofs.lemmas.List.{append-nil}
 use Rattle.std.proofs.Math.Nat.{div-le_self}
+use Rattle.std.proofs.Math.Pow.{pow_mono}
 use Rattle.css_base.specs.declared.int_type.IntType.{IntType}
 use Rattle.css_base.specs.declared.int_type.IntType.TheVariants.{UChar, SChar, Short, UShort, Int, UInt, Long, ULong, LongLong, ULongLong}
 use Rattle.css_base.specs.declared.ending.FaultKind.{FaultKind}
@@ -11,9 +13,9 @@ use Rattle.css_num.specs.declared.operators.UnOp.TheVariants as unary
 use Rattle.css_num.specs.declared.operators.BinOp.{BinOp}
 use Rattle.css_num.specs.declared.operators.BinOp.TheVariants as binary
 use Rattle.css_num.specs.Types.{bits_of, has_sign, IsInRange}
-use Rattle.css_num.specs.Conversion.{modulo, converted}
+use Rattle.css_num.specs.Conversion.{modulo, representation, converted}
 use Rattle.css_num.specs.Operators.{truth_value, count_of, quotient, floor_quotient, bitwise, unary_value, binary_value}
-use Rattle.css_num.proofs.Congruence.{AreCongruent, congruent_refl, congruent_trans, congruent-mul, congruent-modulo, congruent_below, modulo-congruent}
+use Rattle.css_num.proofs.Congruence.{AreCongruent, congruent_refl, congruent_trans, congruent-mul, congruent-modulo, modulo_below, modulo-congruent}
 use Rattle.css_num.proofs.Ranges.{converted-value, represented_in_range}
 use Rattle.css_num.proofs.Values.{binary_in_range}
 use Rattle.css_num.proofs.Wrapping.{congruent_narrow}
@@ -91,12 +93,17 @@ narrow_fits ULong false e = lit≤ tt
 narrow_fits LongLong false e = lit≤ tt
 narrow_fits ULongLong false e = lit≤ tt
 
+bits_in : (f : ℕ → ℕ → ℕ) → ((k m n : ℕ) → m < 2 ^ k → n < 2 ^ k → f m n < 2 ^ k) → (t : IntType) (x y : ℤ) → IsInRange t (bitwise f t x y)
+bits_in f small t x y =
+    let some = pow_pos (bits_of t) in
+    represented_in_range t (f (representation t x) (representation t y)) (small (bits_of t) (representation t x) (representation t y) (modulo_below x (2 ^ bits_of t) some) (modulo_below y (2 ^ bits_of t) some))
+
 -- ---- the count of a shift
 
 masked : (k d : ℕ) {y : ℤ} → k ≤ 5 → IsLow d y → d % 2 ^ k % 32 ≡ modulo y (2 ^ k)
 masked k d {y} few h =
     let below = mod_below d (2 ^ k) (pow_pos k) in
-    let small : 2 ^ k ≤ 2 ^ 5 = pow-le-pow_left 2 k 5 few in
+    let small : 2 ^ k ≤ 2 ^ 5 = pow_mono few in
     (let itself : d % 2 ^ k % 32 ≡ d % 2 ^ k = omega arith in itself) ∙ modulo-congruent (2 ^ k) {a = pos d} (pow_pos k) (congruent_narrow 32 k (omega arith) h.same)
 
 count8 : (d : ℕ) {y : ℤ} → IsLow d y → bit_and d 7 % 32 ≡ modulo y 8
@@ -237,26 +244,30 @@ module _ (w : World) (call : Calling) (calls : Calls) (n base line : ℕ) (mode 
 
     bits_mean : (f : ℕ → ℕ → ℕ) → IsBitwise f → (op : BinOp) → is_shift op ≡ false → (low : Bool) (t : IntType) (c d : ℕ) (x y : ℤ) → IsInRange t (bitwise f t x y) → Taken (is_wide t && low) op t c d x y → LowIf low qs st
         → run (behind_bits low t) (f c d ∷ st) tape ≡ With (bitwise f t x y)
-    bits_mean f is op no low UChar c d x y there h ready = ap (λ a. run (behind_bits low UChar) (a ∷ st) tape) (at c d x y f h.0 h.1) ∙ bits_small f is UChar x y (lit≤ tt) there
-    bits_mean f is op no low SChar c d x y there h ready = ap (λ a. run (behind_bits low SChar) (a ∷ st) tape) (at c d x y f h.0 h.1) ∙ bits_small f is SChar x y (lit≤ tt) there
-    bits_mean f is op no low Short c d x y there h ready = ap (λ a. run (behind_bits low Short) (a ∷ st) tape) (at c d x y f h.0 h.1) ∙ bits_small f is Short x y (lit≤ tt) there
-    bits_mean f is op no low UShort c d x y there h ready = ap (λ a. run (behind_bits low UShort) (a ∷ st) tape) (at c d x y f h.0 h.1) ∙ bits_small f is UShort x y (lit≤ tt) there
-    bits_mean f is op no true Int c d x y there h ready = bits_low f is Int x y (lit≤ tt) h.0 h.1 ready
-    bits_mean f is op no true UInt c d x y there h ready = bits_low f is UInt x y (lit≤ tt) h.0 h.1 ready
-    bits_mean f is op no true Long c d x y there h ready = bits_low f is Long x y (lit≤ tt) h.0 h.1 ready
-    bits_mean f is op no true ULong c d x y there h ready = bits_low f is ULong x y (lit≤ tt) h.0 h.1 ready
-    bits_mean f is op no true LongLong c d x y there h ready = bits_low f is LongLong x y (lit≤ tt) h.0 h.1 ready
-    bits_mean f is op no true ULongLong c d x y there h ready = bits_low f is ULongLong x y (lit≤ tt) h.0 h.1 ready
-    bits_mean f is op no false Int c d x y there h ready = ap (λ a. run qs (a ∷ st) tape) (at c d x y f h.0 h.1 ∙ int-bitwise f is x y h.2 (h.3 no))
-    bits_mean f is op no false Long c d x y there h ready =
-        let k = h.3 no in
+    bits_mean f is op same true UChar c d x y there h ready = ap (λ a. run (behind_bits true UChar) (a ∷ st) tape) (at c d x y f h.0 h.1) ∙ bits_small f is UChar x y (lit≤ tt) there
+    bits_mean f is op same false UChar c d x y there h ready = ap (λ a. run (behind_bits false UChar) (a ∷ st) tape) (at c d x y f h.0 h.1) ∙ bits_small f is UChar x y (lit≤ tt) there
+    bits_mean f is op same true SChar c d x y there h ready = ap (λ a. run (behind_bits true SChar) (a ∷ st) tape) (at c d x y f h.0 h.1) ∙ bits_small f is SChar x y (lit≤ tt) there
+    bits_mean f is op same false SChar c d x y there h ready = ap (λ a. run (behind_bits false SChar) (a ∷ st) tape) (at c d x y f h.0 h.1) ∙ bits_small f is SChar x y (lit≤ tt) there
+    bits_mean f is op same true Short c d x y there h ready = ap (λ a. run (behind_bits true Short) (a ∷ st) tape) (at c d x y f h.0 h.1) ∙ bits_small f is Short x y (lit≤ tt) there
+    bits_mean f is op same false Short c d x y there h ready = ap (λ a. run (behind_bits false Short) (a ∷ st) tape) (at c d x y f h.0 h.1) ∙ bits_small f is Short x y (lit≤ tt) there
+    bits_mean f is op same true UShort c d x y there h ready = ap (λ a. run (behind_bits true UShort) (a ∷ st) tape) (at c d x y f h.0 h.1) ∙ bits_small f is UShort x y (lit≤ tt) there
+    bits_mean f is op same false UShort c d x y there h ready = ap (λ a. run (behind_bits false UShort) (a ∷ st) tape) (at c d x y f h.0 h.1) ∙ bits_small f is UShort x y (lit≤ tt) there
+    bits_mean f is op same true Int c d x y there h ready = bits_low f is Int x y (lit≤ tt) h.0 h.1 ready
+    bits_mean f is op same true UInt c d x y there h ready = bits_low f is UInt x y (lit≤ tt) h.0 h.1 ready
+    bits_mean f is op same true Long c d x y there h ready = bits_low f is Long x y (lit≤ tt) h.0 h.1 ready
+    bits_mean f is op same true ULong c d x y there h ready = bits_low f is ULong x y (lit≤ tt) h.0 h.1 ready
+    bits_mean f is op same true LongLong c d x y there h ready = bits_low f is LongLong x y (lit≤ tt) h.0 h.1 ready
+    bits_mean f is op same true ULongLong c d x y there h ready = bits_low f is ULongLong x y (lit≤ tt) h.0 h.1 ready
+    bits_mean f is op same false Int c d x y there h ready = ap (λ a. run qs (a ∷ st) tape) (at c d x y f h.0 h.1 ∙ int-bitwise f is x y h.2 (h.3 same))
+    bits_mean f is op same false Long c d x y there h ready =
+        let k = h.3 same in
         ap (λ a. run qs (a ∷ st) tape) (at c d x y f h.0 h.1 ∙ int-bitwise f is x y (record { at_least = h.2.at_least; at_most = h.2.at_most }) (record { at_least = k.at_least; at_most = k.at_most }))
-    bits_mean f is op no false UInt c d x y there h ready = ap (λ a. run qs (a ∷ st) tape) (at c d x y f h.0 h.1 ∙ plain-bitwise f is x y h.2 (h.3 no))
-    bits_mean f is op no false ULong c d x y there h ready =
-        let k = h.3 no in
+    bits_mean f is op same false UInt c d x y there h ready = ap (λ a. run qs (a ∷ st) tape) (at c d x y f h.0 h.1 ∙ plain-bitwise f is x y h.2 (h.3 same))
+    bits_mean f is op same false ULong c d x y there h ready =
+        let k = h.3 same in
         ap (λ a. run qs (a ∷ st) tape) (at c d x y f h.0 h.1 ∙ plain-bitwise f is x y (record { at_least = h.2.at_least; at_most = h.2.at_most }) (record { at_least = k.at_least; at_most = k.at_most }))
-    bits_mean f is op no false LongLong c d x y there h ready = ap (λ a. run qs (a ∷ st) tape) (at c d x y f h.0 h.1 ∙ wide-bitwise f is LongLong x y (lit≤ tt))
-    bits_mean f is op no false ULongLong c d x y there h ready = ap (λ a. run qs (a ∷ st) tape) (at c d x y f h.0 h.1 ∙ wide-bitwise f is ULongLong x y (lit≤ tt))
+    bits_mean f is op same false LongLong c d x y there h ready = ap (λ a. run qs (a ∷ st) tape) (at c d x y f h.0 h.1 ∙ wide-bitwise f is LongLong x y (lit≤ tt))
+    bits_mean f is op same false ULongLong c d x y there h ready = ap (λ a. run qs (a ∷ st) tape) (at c d x y f h.0 h.1 ∙ wide-bitwise f is ULongLong x y (lit≤ tt))
 
     -- ---- shifts
 
@@ -306,3 +317,64 @@ module _ (w : World) (call : Calling) (calls : Calls) (n base line : ℕ) (mode 
     shr_means ULong x y h = unsigned_rights ULong x y (cell_of y % 32) (count32 (cell_of y) (low-cell y)) refl h
     shr_means LongLong x y h = rights LongLong x y (cell_of y % 64) (count64 (cell_of y) (low-cell y)) refl h
     shr_means ULongLong x y h = unsigned_rights ULongLong x y (cell_of y % 64) (count64 (cell_of y) (low-cell y)) refl h
+
+  -- ---- binary operators
+
+  abbrev pub Given : List Piece → List ℕ → Option ℤ → Tape → Outcome Exits
+  Given qs st o tape = then_do (given w call base mode line o tape) (λ v t'. run qs (cell_of v ∷ st) t')
+
+  pub binary_means : (low : Bool) (op : BinOp) (t : IntType) (c d : ℕ) (x y : ℤ) → Taken (takes_low low op t) op t c d x y → (qs : List Piece) (st : List ℕ) → LowIf low qs st → (tape : Tape)
+      → run (done line (operated low op t) ++ qs) (d ∷ c ∷ st) tape ≡ Given qs st (binary_value op t x y) tape
+  binary_means low binary.Mul t c d x y h qs st ready tape =
+      let both = like_of (takes_low low binary.Mul t) binary.Mul t h in wrapped low t (takes_low low binary.Mul t) refl (like-product both.0 both.1) qs st ready tape
+  binary_means low binary.Add t c d x y h qs st ready tape =
+      let both = like_of (takes_low low binary.Add t) binary.Add t h in wrapped low t (takes_low low binary.Add t) refl (like-sum both.0 both.1) qs st ready tape
+  binary_means low binary.Sub t c d x y h qs st ready tape =
+      let both = like_of (takes_low low binary.Sub t) binary.Sub t h in wrapped low t (takes_low low binary.Sub t) refl (like-difference both.0 both.1) qs st ready tape
+  binary_means low binary.Shl t c d x y h qs st ready tape =
+      let both = like_of (takes_low low binary.Shl t) binary.Shl t h in shl_means qs st tape low t c d x y both.0 (low_of (takes_low low binary.Shl t) both.1) ready
+  binary_means low binary.Div t c d x y h qs st ready tape =
+      ap (λ a. run (done line (operated low binary.Div t) ++ qs) (a ∷ c ∷ st) tape) h.1
+      ∙ ap (λ a. run (done line (operated low binary.Div t) ++ qs) (cell_of y ∷ a ∷ st) tape) h.0
+      ∙ div_by qs st tape low t (has_sign t) refl x y h.2 (h.3 refl) ready
+  binary_means low binary.Rem t c d x y h qs st ready tape =
+      ap (λ a. run (done line (operated low binary.Rem t) ++ qs) (a ∷ c ∷ st) tape) h.1
+      ∙ ap (λ a. run (done line (operated low binary.Rem t) ++ qs) (cell_of y ∷ a ∷ st) tape) h.0
+      ∙ ap (λ ops. run (done line ops ++ qs) (cell_of y ∷ cell_of x ∷ st) tape) (append-nil (operation binary.Rem t))
+      ∙ rem_by qs st tape t (has_sign t) refl x y h.2 (h.3 refl)
+  binary_means low binary.Shr t c d x y h qs st ready tape =
+      ap (λ a. run (done line (operated low binary.Shr t) ++ qs) (a ∷ c ∷ st) tape) h.1
+      ∙ ap (λ a. run (done line (operated low binary.Shr t) ++ qs) (cell_of y ∷ a ∷ st) tape) h.0
+      ∙ ap (λ ops. run (done line ops ++ qs) (cell_of y ∷ cell_of x ∷ st) tape) (append-nil (operation binary.Shr t))
+      ∙ shr_means qs st tape t x y h.2
+  binary_means low binary.Lt t c d x y h qs st ready tape =
+      ap (λ a. run (Do line (below t) ∷ qs) (a ∷ c ∷ st) tape) h.1
+      ∙ ap (λ a. run (Do line (below t) ∷ qs) (cell_of y ∷ a ∷ st) tape) h.0
+      ∙ less qs st tape qs t x y h.2 (h.3 refl)
+      ∙ truly qs st tape (int_lt x y) (int_lt x y) refl
+  binary_means low binary.Gt t c d x y h qs st ready tape =
+      ap (λ a. run (Do line (below t) ∷ qs) (c ∷ a ∷ st) tape) h.1
+      ∙ ap (λ a. run (Do line (below t) ∷ qs) (a ∷ cell_of y ∷ st) tape) h.0
+      ∙ less qs st tape qs t y x (h.3 refl) h.2
+      ∙ truly qs st tape (int_lt y x) (int_lt y x) refl
+  binary_means low binary.Le t c d x y h qs st ready tape =
+      ap (λ a. run (Do line (below t) ∷ (done line is_zero ++ qs)) (c ∷ a ∷ st) tape) h.1
+      ∙ ap (λ a. run (Do line (below t) ∷ (done line is_zero ++ qs)) (a ∷ cell_of y ∷ st) tape) h.0
+      ∙ less qs st tape (done line is_zero ++ qs) t y x (h.3 refl) h.2
+      ∙ turned qs st tape (int_lt y x) (int_le x y) (not_above x y)
+  binary_means low binary.Ge t c d x y h qs st ready tape =
+      ap (λ a. run (Do line (below t) ∷ (done line is_zero ++ qs)) (a ∷ c ∷ st) tape) h.1
+      ∙ ap (λ a. run (Do line (below t) ∷ (done line is_zero ++ qs)) (cell_of y ∷ a ∷ st) tape) h.0
+      ∙ less qs st tape (done line is_zero ++ qs) t x y h.2 (h.3 refl)
+      ∙ turned qs st tape (int_lt x y) (int_le y x) (not_above y x)
+  binary_means low binary.Eq t c d x y h qs st ready tape =
+      ap (λ a. run qs (are_equal c a ∷ st) tape) h.1
+      ∙ ap (λ a. run qs (are_equal a (cell_of y) ∷ st) tape) h.0
+      ∙ ap (λ a. run qs (a ∷ st) tape) (cell_of-equal t x y h.2 (h.3 refl))
+  binary_means low binary.Ne t c d x y h qs st ready tape =
+      ap (λ a. run qs (differ c a ∷ st) tape) h.1
+      ∙ ap (λ a. run qs (differ a (cell_of y) ∷ st) tape) h.0
+      ∙ ap (λ a. run qs (a ∷ st) tape) (cell_of-differ t x y h.2 (h.3 refl))
+  binary_means low binary.And t c d x y h qs st ready tape = bits_mean qs st tape bit_and is_and binary.And refl low t c d x y (bits_in bit_and (λ k m n. (is_and).stays k m n) t x y) h ready
+  binary_means low binary.Xor t c d x y h qs st ready tape = bits_mean qs st tape bit_xor is_xor binary.Xor refl low t c d x y (bits_in bit_xor (λ k m n. (is_xor).stays k m n) t x y) h ready
+  binary_means low binary.Or t c d x y h qs st ready tape = bits_mean qs st tape bit_or is_or binary.Or refl low t c d x y (bits_in bit_or (λ k m n. (is_or).stays k m n) t x y) h ready
