@@ -3,3 +3,4 @@ pub mod CellsExact
 pub mod CellsBits
 pub mod Ranges
 pub mod Operators
+pub mod Tests
