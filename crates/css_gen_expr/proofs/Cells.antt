@@ -153,7 +153,7 @@ like_bytes ULong k c x = bytes_by 4 32 k c x refl
 like_bytes LongLong k c x = bytes_by 8 64 k c x refl
 like_bytes ULongLong k c x = bytes_by 8 64 k c x refl
 
-few_bits : (t : IntType) → bits_of t ≤ 64
+pub few_bits : (t : IntType) → bits_of t ≤ 64
 few_bits UChar = lit≤ tt
 few_bits SChar = lit≤ tt
 few_bits Short = lit≤ tt

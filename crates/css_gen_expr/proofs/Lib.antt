@@ -4,3 +4,5 @@ pub mod CellsBits
 pub mod Ranges
 pub mod Operators
 pub mod Tests
+pub mod Memory
+pub mod Straight

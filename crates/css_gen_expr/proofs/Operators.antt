@@ -53,7 +53,7 @@ abbrev pub Taken : (low : Bool) → BinOp → IntType → (c d : ℕ) (x y : ℤ
 Taken true op t c d x y = IsLow c x × IsLow d y
 Taken false op t c d x y = (c ≡ cell_of x) × (d ≡ cell_of y) × IsInRange t x × (is_shift op ≡ false → IsInRange t y)
 
-abbrev bits_taken : Bool → ℕ
+abbrev pub bits_taken : Bool → ℕ
 bits_taken b = if b then 32 else 64
 
 like_of : (b : Bool) (op : BinOp) (t : IntType) {c d : ℕ} {x y : ℤ} → Taken b op t c d x y → IsLike (bits_taken b) c x × IsLike (bits_taken b) d y
@@ -119,7 +119,7 @@ count64 : (d : ℕ) {y : ℤ} → IsLow d y → d % 64 ≡ modulo y 64
 count64 d h = modulo-congruent 64 {a = pos d} (lit< tt) (congruent_narrow 32 6 (lit≤ tt) h.same)
 
 module _ (w : World) (call : Calling) (calls : Calls) (n base line : ℕ) (mode : Mode) where
-  abbrev run : List Piece → List ℕ → Tape → Outcome Exits
+  abbrev pub run : List Piece → List ℕ → Tape → Outcome Exits
   run ps st t = means w calls n base (row ps) mode st t
 
   -- what comes behind takes only the low bits of the top
