@@ -6,3 +6,5 @@ pub mod Operators
 pub mod Tests
 pub mod Memory
 pub mod Straight
+pub mod Arithmetic
+pub mod Choices

@@ -25,12 +25,12 @@ abbrev pub flip : (turned b : Bool) → Bool
 flip false b = b
 flip true b = not b
 
-flip_not : (turned b : Bool) → flip (not turned) b ≡ not (flip turned b)
+pub flip_not : (turned b : Bool) → flip (not turned) b ≡ not (flip turned b)
 flip_not true true = refl
 flip_not true false = refl
 flip_not false b = refl
 
-not_not : (b : Bool) → not (not b) ≡ b
+pub not_not : (b : Bool) → not (not b) ≡ b
 not_not true = refl
 not_not false = refl
 

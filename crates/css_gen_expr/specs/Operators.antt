@@ -291,7 +291,7 @@ abbrev pub binary_code : Aim → BinOp → IntType → List Op
 binary_code Used op t = operated false op t
 binary_code Tested op t = operated false (straight op) t
 binary_code Low op t = operated true op t
-binary_code Unused op t = if is_division op then operation op t ++ ops.Drop ∷ [] else []
+binary_code Unused op t = if is_division op then operated true op t ++ ops.Drop ∷ [] else []
 
 -- ---- assignments
 
