@@ -44,10 +44,10 @@ pub right_range : (any : Bool) (t s : IntType) (y : ℤ) → IsSameUnless any t 
 right_range true t s y same e h = cc
 right_range false t s y same e h = subst (λ t. IsInRange t y) same h
 
-straight_taken : (op : BinOp) (t : IntType) {c d : ℕ} {x y : ℤ} → Taken (takes_low false op t) op t c d x y → Taken (takes_low false (straight op) t) (straight op) t c d x y
-straight_taken binary.Le t h = h
-straight_taken binary.Ge t h = h
-straight_taken op t h = h
+straight_taken : (op : BinOp) (t : IntType) (c d : ℕ) (x y : ℤ) → Taken (takes_low false op t) op t c d x y → Taken (takes_low false (straight op) t) (straight op) t c d x y
+straight_taken binary.Le t c d x y h = h
+straight_taken binary.Ge t c d x y h = h
+straight_taken op t c d x y h = h
 
 -- only a division may fail
 always : (op : BinOp) (t : IntType) (x y : ℤ) → is_division op ≡ false → (v : ℤ) × (binary_value op t x y ≡ Some v)
@@ -55,10 +55,10 @@ always binary.Div t x y e = cc
 always binary.Rem t x y e = cc
 always op t x y e = (_, refl)
 
-no_low : (op : BinOp) (t : IntType) {c d : ℕ} {x y : ℤ} → is_division op ≡ true → Taken false op t c d x y → Taken (takes_low true op t) op t c d x y
-no_low binary.Div t e h = h
-no_low binary.Rem t e h = h
-no_low op t e h = cc
+no_low : (op : BinOp) (t : IntType) (c d : ℕ) (x y : ℤ) → is_division op ≡ true → Taken false op t c d x y → Taken (takes_low true op t) op t c d x y
+no_low binary.Div t c d x y e h = h
+no_low binary.Rem t c d x y e h = h
+no_low op t c d x y e h = cc
 
 fits_narrow : (t : IntType) → bits_of t ≤ (if is_narrow t then 32 else 64)
 fits_narrow UChar = lit≤ tt
@@ -162,7 +162,7 @@ module _ (w : World) (call : Calling) (calls : Calls) (n base line : ℕ) (mode 
       let b = takes_low false op t' in
       ap (λ ps. runs ps st tape) (Memory.three (code (low_if b) above a) (code (low_if b) (raised (low_if b) above) e) (done line (operated false (straight op) t')) qs)
       ∙ operands op t' a e every every' above h.1 h.2.0 h.2.1 h.2.2 f st holds tape b (done line (operated false (straight op) t') ++ qs) (λ x y. Behind qs st (binary_value (straight op) t' x y))
-      (λ c d x y taken u. binary_means w call calls n base line mode false (straight op) t' c d x y (straight_taken op t' taken) qs st tt u)
+      (λ c d x y taken u. binary_means w call calls n base line mode false (straight op) t' c d x y (straight_taken op t' c d x y taken) qs st tt u)
       ∙ both_assoc (straight op) t' a e (λ v u. runs qs (cell_of v ∷ st) u) tape
   binary_every op t' a e every every' Low above t h f qs st ready holds tape =
       let b = takes_low true op t' in
@@ -172,25 +172,22 @@ module _ (w : World) (call : Calling) (calls : Calls) (n base line : ℕ) (mode 
       ∙ both_assoc op t' a e (λ v u. runs qs (cell_of v ∷ st) u) tape
   binary_every op t' a e every every' Unused above t h f qs st ready holds tape = by (is_division op) refl
     where
-      abbrev Past : ℤ → Tape → Outcome Exits
-      Past v u = runs qs st u
-
       by : (d : Bool) → is_division op ≡ d
           → runs (code (if d then Used else Unused) above a ++ code (if d then Used else Unused) (raised (if d then Used else Unused) above) e ++ done line (if d then operated true op t' ++ ops.Drop ∷ [] else []) ++ qs) st tape
-          ≡ then_do (value (Binary op t' a e) tape) Past
+          ≡ then_do (value (Binary op t' a e) tape) (λ v u. runs qs st u)
       by true division =
           let all = operated true op t' ++ ops.Drop ∷ [] in
           ap (λ ps. runs ps st tape) (Memory.three (code Used above a) (code Used (suc above) e) (done line all) qs)
-          ∙ operands op t' a e every every' above h.1 h.2.0 h.2.1 h.2.2 f st holds tape false (done line all ++ qs) (λ x y u. then_do (given w call base mode line (binary_value op t' x y) u) Past)
+          ∙ operands op t' a e every every' above h.1 h.2.0 h.2.1 h.2.2 f st holds tape false (done line all ++ qs) (λ x y u. then_do (given w call base mode line (binary_value op t' x y) u) (λ v u. runs qs st u))
           (λ c d x y taken u. ap (λ ps. runs ps (d ∷ c ∷ st) u) (done_both line (operated true op t') (ops.Drop ∷ []) qs)
-          ∙ binary_means w call calls n base line mode true op t' c d x y (no_low op t' division taken) (Do line ops.Drop ∷ qs) st (λ x c low u. refl) u)
-          ∙ both_assoc op t' a e Past tape
+          ∙ binary_means w call calls n base line mode true op t' c d x y (no_low op t' c d x y division taken) (Do line ops.Drop ∷ qs) st (λ x c low u. refl) u)
+          ∙ both_assoc op t' a e (λ v u. runs qs st u) tape
       by false division =
           ap (λ ps. runs ps st tape) (Memory.three (code Unused above a) (code Unused above e) [] qs)
           ∙ every Unused above t' h.1 (Memory.for_first mode (is_quiet a) (is_quiet e) f) (code Unused above e ++ ([] ++ qs)) st tt holds tape
           ∙ then_same (value a tape) (λ x u. every' Unused above h.2.0 h.2.1 (Memory.for_second mode (is_quiet a) (is_quiet e) f) qs st tt holds u
-          ∙ then_same (value e u) (λ y u'. let some = always op t' x y division in ap (λ o. then_do (given w call base mode line o u') Past) (sym some.1)))
-          ∙ both_assoc op t' a e Past tape
+          ∙ then_same (value e u) (λ y u'. let some = always op t' x y division in ap (λ o. then_do (given w call base mode line o u') (λ v u. runs qs st u)) (sym some.1)))
+          ∙ both_assoc op t' a e (λ v u. runs qs st u) tape
 
   -- ---- unary operators
 

@@ -1,5 +1,5 @@
 -- Expressions that decide mean their pieces: `!`, `&&`, `||` and the conditional.
-use Rattle.std.proofs.Common.{◌≡◌, ℕ, suc, ℤ, pos, Bool, true, false, not, nat_eq, int_eq, if◌then◌else◌, List, [], ◌∷◌, ◌++◌, Option, Some, refl, sym, ap, ◌∙◌}
+use Rattle.std.proofs.Common.{◌≡◌, ℕ, suc, ℤ, pos, Bool, true, false, not, ◌&&◌, nat_eq, int_eq, if◌then◌else◌, List, [], ◌∷◌, ◌++◌, Option, Some, refl, sym, ap, ◌∙◌}
 use Rattle.std.specs.Prelude.{slice_get}
 use Rattle.std.proofs.lemmas.List.{append_assoc}
 use Rattle.css_base.specs.declared.int_type.IntType.{IntType}
@@ -196,10 +196,10 @@ module _ (w : World) (call : Calling) (calls : Calls) (n base line : ℕ) (mode 
             ∙ then_same (value test tape) (λ v u. sym (if_then (is_true v) (value a u) (value b u) go))
             ∙ sym (then_assoc (value test tape) (λ v u. if is_true v then value a u else value b u) go)
 
-        abbrev quiet_a : Memory.For mode (is_quiet a)
+        quiet_a : Memory.For mode (is_quiet a)
         quiet_a = Memory.for_first mode (is_quiet a) (is_quiet b) quiet_sides
 
-        abbrev quiet_b : Memory.For mode (is_quiet b)
+        quiet_b : Memory.For mode (is_quiet b)
         quiet_b = Memory.for_second mode (is_quiet a) (is_quiet b) quiet_sides
 
         by : (aim : Aim) → Ready aim qs st → runs (code aim above (Choice test a b) ++ qs) st tape ≡ then_do (value (Choice test a b) tape) (λ v u. runs qs (after aim v st) u)

@@ -8,3 +8,4 @@ pub mod Memory
 pub mod Straight
 pub mod Arithmetic
 pub mod Choices
+pub mod Updates

@@ -119,8 +119,8 @@ module _ (w : World) (call : Calling) (calls : Calls) (n base line : ℕ) (mode 
     abbrev Assigned : ℤ → ℤ → Tape → Outcome Exits
     Assigned p v tape = then_do (store w call base mode line t' p v v tape) (λ v' u. runs qs (after aim v' st) u)
 
-    assigned : {c d : ℕ} {p v : ℤ} → IsLow c p → Memory.Stored b d v → (tape : Tape) → runs rest (d ∷ c ∷ st) tape ≡ Assigned p v tape
-    assigned {c} {d} {p} {v} low like tape =
+    assigned : {c : ℕ} (d : ℕ) {p : ℤ} (v : ℤ) → IsLow c p → Memory.Stored b d v → (tape : Tape) → runs rest (d ∷ c ∷ st) tape ≡ Assigned p v tape
+    assigned {c} d {p} v low like tape =
         Memory.stores w call calls n base line mode t' (Memory.stored_bits t' b narrow) low (Memory.stored_like b like) (done line (ending aim) ++ qs) st tape
         ∙ then_same (ask_in w mode (Store (core.address_of p) (core.bytes_of t' v)) line tape) (λ r u. ends d v like u)
         ∙ sym (then_assoc (ask_in w mode (Store (core.address_of p) (core.bytes_of t' v)) line tape) (λ r u. Goes v u) (λ v' u. runs qs (after aim v' st) u))
@@ -133,7 +133,7 @@ module _ (w : World) (call : Calling) (calls : Calls) (n base line : ℕ) (mode 
         ∙ Memory.operand_to w call calls n base line mode signatures called types true place every above UInt h (Memory.for_none mode (is_quiet place) f) (code (low_if b) (suc above) e ++ rest) st
         (λ p u. then_do (value e u) (Assigned p))
         (λ c p low u. Memory.operand_to w call calls n base line mode signatures called types b e every' (suc above) t' k (Memory.for_none mode (is_quiet e) f) rest (c ∷ st) (Assigned p)
-        (λ d v like u'. assigned low like u') (Memory.holds_above w call calls n base line mode signatures called types above st c holds) u) holds tape
+        (λ d v like u'. assigned d v low like u') (Memory.holds_above w call calls n base line mode signatures called types above st c holds) u) holds tape
         ∙ sym (then_assoc (value place tape) (λ p u. then_do (value e u) (λ v u'. store w call base mode line t' p v v u')) (λ v u. runs qs (after aim v st) u)
         ∙ then_same (value place tape) (λ p u. then_assoc (value e u) (λ v u'. store w call base mode line t' p v v u') (λ v u'. runs qs (after aim v st) u')))
 
