@@ -9,3 +9,5 @@ pub mod Straight
 pub mod Arithmetic
 pub mod Choices
 pub mod Updates
+pub mod Arguments
+pub mod Whole
