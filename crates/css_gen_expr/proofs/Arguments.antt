@@ -175,7 +175,7 @@ module _ (w : World) (call : Calling) (calls : Calls) (n base line : ℕ) (mode 
   all_shown (Shown c ∷ format) Empty h tape = absurd h
   all_shown [] (More e others) h tape = absurd h
 
-  count_is : (es : Expressions) (tape : Tape) → Comes (λ vs. count_of es ≡ length vs) (values es tape)
+  pub count_is : (es : Expressions) (tape : Tape) → Comes (λ vs. count_of es ≡ length vs) (values es tape)
   count_is Empty tape = refl
   count_is (More e others) tape =
       gives_then (λ v. Unit {0}) (λ vs. suc (count_of others) ≡ length vs) (value e tape) _ (anything (value e tape)) (λ v u r.

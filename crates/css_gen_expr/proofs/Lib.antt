@@ -11,3 +11,5 @@ pub mod Choices
 pub mod Updates
 pub mod Arguments
 pub mod Whole
+pub mod Modeless
+pub mod Calls
