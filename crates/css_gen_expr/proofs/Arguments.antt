@@ -1,8 +1,8 @@
 -- Arguments, calls and formatted output mean their pieces.
-use Rattle.std.proofs.Common.{◌≡◌, ℕ, zero, suc, ◌+◌, ◌%◌, ◌^◌, ◌<◌, ℤ, pos, ◌+ℤ◌, Bool, true, false, List, [], ◌∷◌, ◌++◌, map, length, reverse, Option, Some, None, refl, sym, ap, ◌∙◌, subst, arith, lit≤, lit<, length-map}
+use Rattle.std.proofs.Common.{◌≡◌, ℕ, zero, suc, ◌+◌, ◌%◌, ◌^◌, ◌<◌, ℤ, pos, ◌+ℤ◌, Bool, true, false, List, [], ◌∷◌, ◌++◌, map, length, reverse, Option, Some, None, refl, sym, ap, ◌∙◌, subst, arith, lit≤, lit<}
 use Rattle.std.specs.Prelude.{slice_get}
 use Rattle.std.specs.Fmt.{digits, decimal, signed_decimal}
-use Rattle.std.proofs.lemmas.List.{append_assoc, reverse-append, length-reverse}
+use Rattle.std.proofs.lemmas.List.{append_assoc, reverse-append, length-reverse, length-map}
 use Rattle.css_base.specs.declared.int_type.IntType.{IntType}
 use Rattle.css_base.specs.declared.int_type.IntType.TheVariants.{Int, UInt, LongLong, ULongLong}
 use Rattle.css_num.specs.Types.{bits_of, IsInRange}

@@ -1,8 +1,8 @@
 -- Calls of functions and tasks mean their pieces.
-use Rattle.std.proofs.Common.{◌≡◌, ℕ, zero, suc, ◌+◌, ◌-◌, ◌*◌, ◌<◌, ◌^◌, ◌%◌, ℤ, pos, Bool, true, false, not, ◌||◌, ◌&&◌, IsTrue, if◌then◌else◌, List, [], ◌∷◌, ◌++◌, map, length, take, drop, reverse, get_or, Option, Some, None, is_none, option_map, refl, sym, ap, ◌∙◌, subst, arith, lit<, length-map, length-append}
+use Rattle.std.proofs.Common.{◌≡◌, ℕ, zero, suc, ◌+◌, ◌-◌, ◌*◌, ◌<◌, ◌^◌, ◌%◌, ℤ, pos, Bool, true, false, not, ◌||◌, ◌&&◌, IsTrue, if◌then◌else◌, List, [], ◌∷◌, ◌++◌, map, length, take, drop, reverse, get_or, Option, Some, None, is_none, option_map, refl, sym, ap, ◌∙◌, subst, arith, lit<, length-append}
 use Rattle.std.specs.Prelude.{slice_get, All}
 use Rattle.std.proofs.Math.Seq.{take-append_seam, drop-append_seam}
-use Rattle.std.proofs.lemmas.List.{append_assoc, append-nil, reverse-append, map-append}
+use Rattle.std.proofs.lemmas.List.{append_assoc, reverse-append, length-map}
 use Rattle.std.proofs.lemmas.Option.{same_Some, slice_get-map}
 use Rattle.css_base.specs.declared.int_type.IntType.{IntType}
 use Rattle.css_base.specs.declared.int_type.IntType.TheVariants.{UInt, LongLong}
@@ -256,11 +256,14 @@ module _ (w : World) (fs : List Function) (calls : Calls) (n base line : ℕ) (t
 
 -- ---- calls
 
+not_there : {s : Signature} → None ≡ Some s → ⊥
+not_there e = cc
+
 measured_modeless : (signatures : List Signature) (line above : ℕ) (parts : List Part) → IsModeless (row (measured signatures line above parts))
 measured_modeless signatures line above [] = tt
 measured_modeless signatures line above (Scalar ∷ parts) = measured_modeless signatures line above parts
 measured_modeless signatures line above (Window direction element is_strided dims ∷ parts) =
-    both_modeless (all_pieces signatures no_call line above dims) _ (all_modeless signatures dims line above) (measured_modeless signatures line (above + count_of dims) parts)
+    both_modeless (all_pieces signatures no_call line above dims) (measured signatures line (above + count_of dims) parts) (all_modeless signatures dims line above) (measured_modeless signatures line (above + count_of dims) parts)
 
 module _ (w : World) (fs : List Function) (call : Calling) (calls : Calls) (n base line : ℕ) (agrees : Agrees w fs call calls)
     (typed : (k : ℕ) (f : Function) (task : Task) → slice_get fs k ≡ Some f → f.task ≡ Some task → ArePartsOf (map signature fs) f.parameters f.parameters task.parts) where
@@ -329,10 +332,7 @@ module _ (w : World) (fs : List Function) (call : Calling) (calls : Calls) (n ba
     calls_mean k s found vs vs_in qs st tape = by (slice_get fs k) refl
       where
         by : (o : Option Function) → slice_get fs k ≡ o → plain_runs (code.called fs line k (length vs) ++ qs) (stacked vs st) tape ≡ then_do (call k vs base line tape) (λ v u. plain_runs qs (cell_of v ∷ st) u)
-        by None e = absurd (nothing (sym (ap (option_map signature) e) ∙ sym (slice_get-map signature fs k) ∙ found))
-          where
-            nothing : None ≡ Some s → ⊥
-            nothing e = cc
+        by None e = absurd (not_there (sym (ap (option_map signature) e) ∙ sym (slice_get-map signature fs k) ∙ found))
         by (Some f) e =
             let same = same_Some (signature f) s (sym (ap (option_map signature) e) ∙ sym (slice_get-map signature fs k) ∙ found) in
             ap (λ o. plain_runs (called_as (map signature fs) line k (length vs) (task_of o) ++ qs) (stacked vs st) tape) e

@@ -75,18 +75,18 @@ module _ (w : World) (call : Calling) (calls : Calls) (n base line : ℕ) (mode 
   -- ---- by the cell of a test
 
   -- what is decided by whether a cell is 0
-  by_cell : (t : IntType) (v : ℤ) → IsInRange t v → (x y : Outcome Exits) → (if nat_eq (cell_of v) 0 then x else y) ≡ (if is_true v then y else x)
+  pub by_cell : (t : IntType) (v : ℤ) → IsInRange t v → (x y : Outcome Exits) → (if nat_eq (cell_of v) 0 then x else y) ≡ (if is_true v then y else x)
   by_cell t v r x y = ap (λ b. if b then x else y) (zero_test t v r) ∙ turn (int_eq v (pos 0))
     where
       turn : (b : Bool) → (if b then x else y) ≡ (if not b then y else x)
       turn true = refl
       turn false = refl
 
-  turned_if : {A : Type 0} (b : Bool) (x y : Outcome A) → (if b then y else x) ≡ (if not b then x else y)
+  pub turned_if : {A : Type 0} (b : Bool) (x y : Outcome A) → (if b then y else x) ≡ (if not b then x else y)
   turned_if true x y = refl
   turned_if false x y = refl
 
-  sides_mean : (turned : Bool) (p q : Piece) (qs : List Piece) (st : List ℕ) (t : IntType) (v : ℤ) → IsInRange t v → (u : Tape)
+  pub sides_mean : (turned : Bool) (p q : Piece) (qs : List Piece) (st : List ℕ) (t : IntType) (v : ℤ) → IsInRange t v → (u : Tape)
       → runs (sides turned line p q ∷ qs) (cell_of v ∷ st) u ≡ (if flip turned (is_true v) then runs (p ∷ qs) st u else runs (q ∷ qs) st u)
   sides_mean false p q qs st t v r u =
       ap (λ o. then_do o (on_fall (means w calls n base (row qs)))) (by_cell t v r (means w calls n base q mode st u) (means w calls n base p mode st u))
@@ -96,7 +96,7 @@ module _ (w : World) (call : Calling) (calls : Calls) (n base line : ℕ) (mode 
       ∙ if_then (is_true v) (means w calls n base q mode st u) (means w calls n base p mode st u) (on_fall (means w calls n base (row qs)))
       ∙ turned_if (is_true v) (runs (p ∷ qs) st u) (runs (q ∷ qs) st u)
 
-  side_means : (turned : Bool) (p : Piece) (qs : List Piece) (st : List ℕ) (t : IntType) (v : ℤ) → IsInRange t v → (u : Tape)
+  pub side_means : (turned : Bool) (p : Piece) (qs : List Piece) (st : List ℕ) (t : IntType) (v : ℤ) → IsInRange t v → (u : Tape)
       → runs (side turned line p ∷ qs) (cell_of v ∷ st) u ≡ (if flip turned (is_true v) then runs (p ∷ qs) st u else runs qs st u)
   side_means false p qs st t v r u =
       ap (λ o. then_do o (on_fall (means w calls n base (row qs)))) (by_cell t v r (Goes (Falls mode st) u) (means w calls n base p mode st u))
@@ -106,7 +106,7 @@ module _ (w : World) (call : Calling) (calls : Calls) (n base line : ℕ) (mode 
       ∙ if_then (is_true v) (means w calls n base Skip mode st u) (means w calls n base p mode st u) (on_fall (means w calls n base (row qs)))
       ∙ turned_if (is_true v) (runs (p ∷ qs) st u) (runs qs st u)
 
-  if_same : {A : Type 0} (b : Bool) {x x' y y' : A} → x ≡ x' → y ≡ y' → (if b then x else y) ≡ (if b then x' else y')
+  pub if_same : {A : Type 0} (b : Bool) {x x' y y' : A} → x ≡ x' → y ≡ y' → (if b then x else y) ≡ (if b then x' else y')
   if_same true e e' = e
   if_same false e e' = e'
 

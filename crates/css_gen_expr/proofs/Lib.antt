@@ -13,3 +13,4 @@ pub mod Arguments
 pub mod Whole
 pub mod Modeless
 pub mod Calls
+pub mod Conditions

@@ -1,13 +1,16 @@
 -- Pieces of dimensions: what comes behind them can't see with which arguments the mode was entered.
-use Rattle.std.proofs.Common.{◌≡◌, ℕ, zero, suc, ℤ, Bool, true, false, not, nat_eq, ◌&&◌, ◌||◌, if◌then◌else◌, List, [], ◌∷◌, ◌++◌, refl, sym, ap, ◌∙◌}
+use Rattle.std.proofs.Common.{◌≡◌, ℕ, zero, suc, ◌-◌, ℤ, pos, Bool, true, false, not, nat_eq, ◌&&◌, ◌||◌, if◌then◌else◌, List, [], ◌∷◌, ◌++◌, refl, sym, ap, ◌∙◌}
 use Rattle.css_base.specs.declared.int_type.IntType.{IntType}
+use Rattle.css_base.specs.declared.int_type.IntType.TheVariants.{Int, UInt, LongLong}
 use Rattle.css_num.specs.declared.operators.UnOp.TheVariants as unary
 use Rattle.css_semantics.specs.Dialogue.{World, Tape, Outcome, Goes, Stops, then_do, Mode, Measuring, ask_in}
 use Rattle.css_semantics.specs.Tasks.{makes_tasks}
 use Rattle.css_core.specs.Core.{Expression, Number, Local, Given, Value, Assign, Update, Convert, Unary, Binary, And, Or, Choice, Sequence, Call, Input, Put, Print, Allocate, Expressions, Empty, More}
-use Rattle.css_core.specs.Typed.{Signature}
+use Rattle.css_core.specs.Typed.{Signature, count_of}
+use Rattle.css_num.specs.Conversion.{converted}
 use Rattle.css_isa.specs.Cells.{cell_as}
 use Rattle.css_isa.specs.declared.code.Op.{Op}
+use Rattle.css_isa.specs.declared.code.Op.TheVariants as ops
 use Rattle.css_isa.specs.Effects as effects
 use Rattle.css_isa.specs.Effects.{Effect, effect}
 use Rattle.css_isa.specs.Roles.{Role, Straight, Turning, Outward, Telling, Awaiting, Changing, Testing, Jumping, Branching, Calling, Submitting, Returning, role_of}
@@ -16,7 +19,9 @@ use Rattle.css_blocks.specs.Pieces.{Piece, Skip, Then, Do, When, Loop, Catch, Ex
 use Rattle.css_blocks.specs.Meaning.{Exits, Falls, Jumps, Returns, Sticks, Does, on_fall, worked, acts, Calls, means}
 use Rattle.css_gen_expr.specs.declared.aim.Aim.{Aim}
 use Rattle.css_gen_expr.specs.declared.aim.Aim.TheVariants.{Used, Tested, Low, Unused}
-use Rattle.css_gen_expr.specs.Expressions.{done, raised, sides, side, is_turned, is_truth, truth_code, pieces_of, all_pieces}
+use Rattle.css_gen_expr.specs.Ranges.{is_within}
+use Rattle.css_gen_expr.specs.Operators.{plainly, ending, only_for, exact, narrowing, load_of, store_of, conversion_takes, conversion_code, unary_takes, unary_code, binary_takes, binary_code, assignment_takes, is_stored_low, update_takes, old_code, new_code}
+use Rattle.css_gen_expr.specs.Expressions.{done, raised, sides, side, is_turned, is_truth, truth_code, kept, keeps_old, lifted, update_ending, put_code, print_code, pieces_of, all_pieces}
 use Rattle.css_gen_expr.specs.Calls.{no_call}
 
 -- instructions that go on, and choices between them
@@ -44,6 +49,10 @@ fall_assoc (Goes (Jumps way mode st) t) f g = refl
 fall_assoc (Goes (Returns cell line) t) f g = refl
 fall_assoc (Goes Sticks t) f g = refl
 fall_assoc (Stops why t) f g = refl
+
+either : {A B : Type 0} (c : Bool) (x x' y y' : Outcome A) (go : A → Tape → Outcome B) → then_do x go ≡ then_do x' go → then_do y go ≡ then_do y' go → then_do (if c then x else y) go ≡ then_do (if c then x' else y') go
+either true x x' y y' go e e' = e
+either false x x' y y' go e e' = e'
 
 module _ (w : World) (calls : Calls) (n base : ℕ) where
   replied : (o : Outcome ℕ) (cells : ℕ → List ℕ) (q : Does) → Forgets q → (a b : List ℤ)
@@ -84,17 +93,13 @@ module _ (w : World) (calls : Calls) (n base : ℕ) where
       ∙ sym (fall_assoc (means w calls n base p (Measuring b) st t) (means w calls n base p') q)
   modeless (Do line op) is q forgets a b st t = acts_modeless line (role_of op) op q forgets a b st t
   modeless (pieces.Choice line p p') is q forgets a b [] t = refl
-  modeless (pieces.Choice line p p') is q forgets a b (c ∷ st) t = by (nat_eq c 0)
-    where
-      by : (z : Bool) → then_do (if z then means w calls n base p' (Measuring a) st t else means w calls n base p (Measuring a) st t) (on_fall q) ≡ then_do (if z then means w calls n base p' (Measuring b) st t else means w calls n base p (Measuring b) st t) (on_fall q)
-      by true = modeless p' is.1 q forgets a b st t
-      by false = modeless p is.0 q forgets a b st t
+  modeless (pieces.Choice line p p') is q forgets a b (c ∷ st) t =
+      either (nat_eq c 0) (means w calls n base p' (Measuring a) st t) (means w calls n base p' (Measuring b) st t) (means w calls n base p (Measuring a) st t) (means w calls n base p (Measuring b) st t) (on_fall q)
+      (modeless p' is.1 q forgets a b st t) (modeless p is.0 q forgets a b st t)
   modeless (When line p) is q forgets a b [] t = refl
-  modeless (When line p) is q forgets a b (c ∷ st) t = by (nat_eq c 0)
-    where
-      by : (z : Bool) → then_do (if z then Goes (Falls (Measuring a) st) t else means w calls n base p (Measuring a) st t) (on_fall q) ≡ then_do (if z then Goes (Falls (Measuring b) st) t else means w calls n base p (Measuring b) st t) (on_fall q)
-      by true = forgets a b st t
-      by false = modeless p is q forgets a b st t
+  modeless (When line p) is q forgets a b (c ∷ st) t =
+      either (nat_eq c 0) (Goes (Falls (Measuring a) st) t) (Goes (Falls (Measuring b) st) t) (means w calls n base p (Measuring a) st t) (means w calls n base p (Measuring b) st t) (on_fall q)
+      (forgets a b st t) (modeless p is q forgets a b st t)
   modeless (Loop line p p') is q forgets a b st t = absurd is
   modeless (Catch way p) is q forgets a b st t = absurd is
   modeless (Exit line way) is q forgets a b st t = absurd is
@@ -126,52 +131,88 @@ side_modeless : (turned : Bool) (line : ℕ) (p : Piece) → IsModeless p → Is
 side_modeless false line p is = is
 side_modeless true line p is = (tt, is)
 
+then_done : (ps : List Piece) (line : ℕ) (all : List Op) → IsModeless (row ps) → IsModeless (row (ps ++ done line all))
+then_done ps line all is = both_modeless ps (done line all) is (done_modeless line all)
+
+then_one : (ps : List Piece) (p : Piece) → IsModeless (row ps) → IsModeless p → IsModeless (row (ps ++ p ∷ []))
+then_one ps p is is' = both_modeless ps (p ∷ []) is (is', tt)
+
 module _ (signatures : List Signature) where
   abbrev code : Aim → (line above : ℕ) → Expression → List Piece
   code = pieces_of signatures no_call
 
+  abbrev all : (line above : ℕ) → Expressions → List Piece
+  all = all_pieces signatures no_call
+
   abbrev Is : List Piece → Type 0
   Is ps = IsModeless (row ps)
 
-  mutual
-    pub code_modeless : (e : Expression) (aim : Aim) (line above : ℕ) → Is (code aim line above e)
-    code_modeless (Number value) aim line above = done_modeless line _
-    code_modeless (Local offset) aim line above = done_modeless line _
-    code_modeless (Given k) aim line above = done_modeless line _
-    code_modeless (Value t place) aim line above = both_modeless (code Low line above place) _ (code_modeless place Low line above) (done_modeless line _)
-    code_modeless (Assign t place e) aim line above =
-        both_modeless (code Low line above place ++ code _ line (suc above) e) _ (both_modeless (code Low line above place) (code _ line (suc above) e) (code_modeless place Low line above) (code_modeless e _ line (suc above))) (done_modeless line _)
-    code_modeless (Update gives t op within place e) aim line above =
-        both_modeless (code Low line above place ++ done line _ ++ code _ line _ e) _
-        (both_modeless (code Low line above place ++ done line _) (code _ line _ e) (both_modeless (code Low line above place) _ (code_modeless place Low line above) (done_modeless line _)) (code_modeless e _ line _)) (done_modeless line _)
-    code_modeless (Convert t e) aim line above = both_modeless (code _ line above e) _ (code_modeless e _ line above) (done_modeless line _)
-    code_modeless (Unary unary.Plus t e) aim line above = code_modeless e _ line above
-    code_modeless (Unary unary.Not t e) Used line above = both_modeless (code Tested line above e) _ (code_modeless e Tested line above) (done_modeless line _)
-    code_modeless (Unary unary.Not t e) Tested line above = code_modeless e Tested line above
-    code_modeless (Unary unary.Not t e) Low line above = both_modeless (code Tested line above e) _ (code_modeless e Tested line above) (done_modeless line _)
-    code_modeless (Unary unary.Not t e) Unused line above = code_modeless e Unused line above
-    code_modeless (Unary unary.Minus t e) aim line above = both_modeless (code _ line above e) _ (code_modeless e _ line above) (done_modeless line _)
-    code_modeless (Unary unary.Complement t e) aim line above = both_modeless (code _ line above e) _ (code_modeless e _ line above) (done_modeless line _)
-    code_modeless (Binary op t a b) aim line above =
-        both_modeless (code _ line above a ++ code _ line _ b) _ (both_modeless (code _ line above a) (code _ line _ b) (code_modeless a _ line above) (code_modeless b _ line _)) (done_modeless line _)
-    code_modeless (And a b) Unused line above = both_modeless (code Tested line above a) _ (code_modeless a Tested line above) (side_modeless (is_turned a) line _ (code_modeless b Unused line above), tt)
-    code_modeless (And a b) Used line above = both_modeless (code Tested line above a) _ (code_modeless a Tested line above) (sides_modeless (is_turned a) line _ _ (both_modeless (code Tested line above b) _ (code_modeless b Tested line above) (done_modeless line _)) (tt, tt), tt)
-    code_modeless (And a b) Tested line above = both_modeless (code Tested line above a) _ (code_modeless a Tested line above) (sides_modeless (is_turned a) line _ _ (both_modeless (code Tested line above b) _ (code_modeless b Tested line above) (done_modeless line _)) (tt, tt), tt)
-    code_modeless (And a b) Low line above = both_modeless (code Tested line above a) _ (code_modeless a Tested line above) (sides_modeless (is_turned a) line _ _ (both_modeless (code Tested line above b) _ (code_modeless b Tested line above) (done_modeless line _)) (tt, tt), tt)
-    code_modeless (Or a b) Unused line above = both_modeless (code Tested line above a) _ (code_modeless a Tested line above) (side_modeless (not (is_turned a)) line _ (code_modeless b Unused line above), tt)
-    code_modeless (Or a b) Used line above = both_modeless (code Tested line above a) _ (code_modeless a Tested line above) (sides_modeless (is_turned a) line _ _ (tt, tt) (both_modeless (code Tested line above b) _ (code_modeless b Tested line above) (done_modeless line _)), tt)
-    code_modeless (Or a b) Tested line above = both_modeless (code Tested line above a) _ (code_modeless a Tested line above) (sides_modeless (is_turned a) line _ _ (tt, tt) (both_modeless (code Tested line above b) _ (code_modeless b Tested line above) (done_modeless line _)), tt)
-    code_modeless (Or a b) Low line above = both_modeless (code Tested line above a) _ (code_modeless a Tested line above) (sides_modeless (is_turned a) line _ _ (tt, tt) (both_modeless (code Tested line above b) _ (code_modeless b Tested line above) (done_modeless line _)), tt)
-    code_modeless (Choice test a b) aim line above =
-        both_modeless (code Tested line above test) _ (code_modeless test Tested line above) (sides_modeless (is_turned test) line _ _ (code_modeless a _ line above) (code_modeless b _ line above), tt)
-    code_modeless (Sequence a b) aim line above = both_modeless (code Unused line above a) _ (code_modeless a Unused line above) (code_modeless b _ line above)
-    code_modeless (Call k es) aim line above =
-        both_modeless (all_pieces signatures no_call line above es ++ []) _ (both_modeless (all_pieces signatures no_call line above es) [] (all_modeless es line above) tt) (done_modeless line _)
-    code_modeless Input aim line above = done_modeless line _
-    code_modeless (Put e) aim line above = both_modeless (code Low line above e) _ (code_modeless e Low line above) (done_modeless line _)
-    code_modeless (Print format es) aim line above = both_modeless (all_pieces signatures no_call line above es) _ (all_modeless es line above) (done_modeless line _)
-    code_modeless (Allocate size) aim line above = both_modeless (code Low line above size) _ (code_modeless size Low line above) (done_modeless line _)
+  -- what an expression is, for each of its parts
+  abbrev Code : Expression → Type 0
+  Code e = (aim : Aim) (line above : ℕ) → Is (code aim line above e)
 
-    pub all_modeless : (es : Expressions) (line above : ℕ) → Is (all_pieces signatures no_call line above es)
+  abbrev truly : (line above : ℕ) → Expression → List Piece
+  truly line above e = code Tested line above e ++ done line (truth_code (is_turned e) (is_truth e))
+
+  truly_is : (e : Expression) → Code e → (line above : ℕ) → Is (truly line above e)
+  truly_is e is line above = then_done (code Tested line above e) line (truth_code (is_turned e) (is_truth e)) (is Tested line above)
+
+  sides_is : (a : Expression) → Code a → (line above : ℕ) (p q : List Piece) → Is p → Is q → Is (code Tested line above a ++ sides (is_turned a) line (row p) (row q) ∷ [])
+  sides_is a is line above p q is' is'' = then_one (code Tested line above a) (sides (is_turned a) line (row p) (row q)) (is Tested line above) (sides_modeless (is_turned a) line (row p) (row q) is' is'')
+
+  side_is : (a : Expression) → Code a → (turned : Bool) (line above : ℕ) (p : List Piece) → Is p → Is (code Tested line above a ++ side turned line (row p) ∷ [])
+  side_is a is turned line above p is' = then_one (code Tested line above a) (side turned line (row p)) (is Tested line above) (side_modeless turned line (row p) is')
+
+  one : (line v : ℕ) → Is (Do line (ops.Push (pos v)) ∷ [])
+  one line v = (tt, tt)
+
+  mutual
+    pub code_modeless : (e : Expression) → Code e
+    code_modeless (Number value) aim line above = done_modeless line (only_for aim (ops.Push (converted LongLong value) ∷ []))
+    code_modeless (Local offset) aim line above = done_modeless line (only_for aim (ops.Frame offset ∷ exact aim (narrowing UInt)))
+    code_modeless (Given k) aim line above = done_modeless line (only_for aim (ops.Dup (above - 1 - k) ∷ []))
+    code_modeless (Value t place) aim line above = then_done (code Low line above place) line (load_of t ∷ ending aim) (code_modeless place Low line above)
+    code_modeless (Assign t place e) aim line above =
+        then_done (code Low line above place ++ code (assignment_takes aim t) line (suc above) e) line (store_of t ∷ ending aim)
+        (both_modeless (code Low line above place) (code (assignment_takes aim t) line (suc above) e) (code_modeless place Low line above) (code_modeless e (assignment_takes aim t) line (suc above)))
+    code_modeless (Update gives t op within place e) aim line above =
+        let old = keeps_old gives aim in
+        let low = is_stored_low old aim t in
+        let loading = ops.Dup 0 ∷ load_of t ∷ (kept gives aim ++ old_code low op t within) in
+        let second = code (update_takes low op within) line (lifted old above) e in
+        then_done (code Low line above place ++ done line loading ++ second) line (new_code low op t within ++ store_of t ∷ update_ending old aim)
+        (both_modeless (code Low line above place ++ done line loading) second (then_done (code Low line above place) line loading (code_modeless place Low line above)) (code_modeless e (update_takes low op within) line (lifted old above)))
+    code_modeless (Convert t e) aim line above =
+        let within = is_within signatures t e in
+        then_done (code (conversion_takes aim t within) line above e) line (conversion_code aim t within) (code_modeless e (conversion_takes aim t within) line above)
+    code_modeless (Unary unary.Plus t e) aim line above = code_modeless e (plainly aim) line above
+    code_modeless (Unary unary.Not t e) Used line above = then_done (code Tested line above e) line (truth_code (not (is_turned e)) (is_truth e)) (code_modeless e Tested line above)
+    code_modeless (Unary unary.Not t e) Tested line above = code_modeless e Tested line above
+    code_modeless (Unary unary.Not t e) Low line above = then_done (code Tested line above e) line (truth_code (not (is_turned e)) (is_truth e)) (code_modeless e Tested line above)
+    code_modeless (Unary unary.Not t e) Unused line above = code_modeless e Unused line above
+    code_modeless (Unary unary.Minus t e) aim line above = then_done (code (unary_takes aim unary.Minus t) line above e) line (unary_code aim unary.Minus t) (code_modeless e (unary_takes aim unary.Minus t) line above)
+    code_modeless (Unary unary.Complement t e) aim line above = then_done (code (unary_takes aim unary.Complement t) line above e) line (unary_code aim unary.Complement t) (code_modeless e (unary_takes aim unary.Complement t) line above)
+    code_modeless (Binary op t a b) aim line above =
+        let taken = binary_takes aim op t in
+        then_done (code taken line above a ++ code taken line (raised taken above) b) line (binary_code aim op t)
+        (both_modeless (code taken line above a) (code taken line (raised taken above) b) (code_modeless a taken line above) (code_modeless b taken line (raised taken above)))
+    code_modeless (And a b) Unused line above = side_is a (code_modeless a) (is_turned a) line above (code Unused line above b) (code_modeless b Unused line above)
+    code_modeless (And a b) Used line above = sides_is a (code_modeless a) line above (truly line above b) (Do line (ops.Push (pos 0)) ∷ []) (truly_is b (code_modeless b) line above) (one line 0)
+    code_modeless (And a b) Tested line above = sides_is a (code_modeless a) line above (truly line above b) (Do line (ops.Push (pos 0)) ∷ []) (truly_is b (code_modeless b) line above) (one line 0)
+    code_modeless (And a b) Low line above = sides_is a (code_modeless a) line above (truly line above b) (Do line (ops.Push (pos 0)) ∷ []) (truly_is b (code_modeless b) line above) (one line 0)
+    code_modeless (Or a b) Unused line above = side_is a (code_modeless a) (not (is_turned a)) line above (code Unused line above b) (code_modeless b Unused line above)
+    code_modeless (Or a b) Used line above = sides_is a (code_modeless a) line above (Do line (ops.Push (pos 1)) ∷ []) (truly line above b) (one line 1) (truly_is b (code_modeless b) line above)
+    code_modeless (Or a b) Tested line above = sides_is a (code_modeless a) line above (Do line (ops.Push (pos 1)) ∷ []) (truly line above b) (one line 1) (truly_is b (code_modeless b) line above)
+    code_modeless (Or a b) Low line above = sides_is a (code_modeless a) line above (Do line (ops.Push (pos 1)) ∷ []) (truly line above b) (one line 1) (truly_is b (code_modeless b) line above)
+    code_modeless (Choice test a b) aim line above =
+        sides_is test (code_modeless test) line above (code (plainly aim) line above a) (code (plainly aim) line above b) (code_modeless a (plainly aim) line above) (code_modeless b (plainly aim) line above)
+    code_modeless (Sequence a b) aim line above = both_modeless (code Unused line above a) (code (plainly aim) line above b) (code_modeless a Unused line above) (code_modeless b (plainly aim) line above)
+    code_modeless (Call k es) aim line above = then_done (all line above es ++ []) line (ending aim) (both_modeless (all line above es) [] (all_modeless es line above) tt)
+    code_modeless Input aim line above = done_modeless line (ops.In ∷ exact aim (narrowing Int))
+    code_modeless (Put e) aim line above = then_done (code Low line above e) line (put_code aim) (code_modeless e Low line above)
+    code_modeless (Print format es) aim line above = then_done (all line above es) line (print_code aim format (count_of es)) (all_modeless es line above)
+    code_modeless (Allocate size) aim line above = then_done (code Low line above size) line (ops.Malloc ∷ exact aim (narrowing UInt)) (code_modeless size Low line above)
+
+    pub all_modeless : (es : Expressions) (line above : ℕ) → Is (all line above es)
     all_modeless Empty line above = tt
-    all_modeless (More e others) line above = both_modeless (code Used line above e) _ (code_modeless e Used line above) (all_modeless others line (suc above))
+    all_modeless (More e others) line above = both_modeless (code Used line above e) (all line (suc above) others) (code_modeless e Used line above) (all_modeless others line (suc above))

@@ -34,7 +34,7 @@ pub not_not : (b : Bool) → not (not b) ≡ b
 not_not true = refl
 not_not false = refl
 
-true_of-truth : (b : Bool) → is_true (truth_value b) ≡ b
+pub true_of-truth : (b : Bool) → is_true (truth_value b) ≡ b
 true_of-truth true = refl
 true_of-truth false = refl
 

@@ -2,5 +2,7 @@
 #![tactic(auto)]
 
 mod aim;
+mod laws;
 
 pub use aim::Aim;
+pub use laws::{cells_have_the_bytes_of_values, expressions_mean_their_pieces};
