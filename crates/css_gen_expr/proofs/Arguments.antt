@@ -65,7 +65,7 @@ nth (a ∷ above) c st = nth above c st
 pub stacked_at : (v : ℤ) (vs : List ℤ) (st : List ℕ) → slice_get (stacked (v ∷ vs) st) (length vs) ≡ Some (cell_of v)
 stacked_at v vs st =
     ap (λ cells. slice_get cells (length vs)) (stacked_more v vs st)
-    ∙ ap (slice_get (stacked vs (cell_of v ∷ st))) (sym (length-reverse (map cell_of vs) ∙ length-map cell_of vs))
+    ∙ ap (slice_get (stacked vs (cell_of v ∷ st))) (sym (length-reverse (map cell_of vs) ∙ length-map vs cell_of))
     ∙ nth (reverse (map cell_of vs)) (cell_of v) st
 
 -- the text for a cell is that for its value
@@ -248,7 +248,7 @@ module _ (w : World) (call : Calling) (calls : Calls) (n base line : ℕ) (mode 
   dropped (c ∷ cells) qs st tape = dropped cells qs st tape
 
   stacked_length : (vs : List ℤ) → length (reverse (map cell_of vs)) ≡ length vs
-  stacked_length vs = length-reverse (map cell_of vs) ∙ length-map cell_of vs
+  stacked_length vs = length-reverse (map cell_of vs) ∙ length-map vs cell_of
 
   all_dropped : (vs : List ℤ) (qs : List Piece) (st : List ℕ) (tape : Tape) → runs (done line (drops (length vs)) ++ qs) (stacked vs st) tape ≡ runs qs st tape
   all_dropped vs qs st tape = ap (λ k. runs (done line (drops k) ++ qs) (stacked vs st) tape) (sym (stacked_length vs)) ∙ dropped (reverse (map cell_of vs)) qs st tape

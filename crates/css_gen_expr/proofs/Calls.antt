@@ -136,7 +136,7 @@ argument_in_range (t' ∷ types) [] h k t e = absurd h
 -- the cells of all dimensions
 abbrev cells : List Argument → List ℕ
 cells [] = []
-cells (a ∷ as) = map cell_of a.dimensions ++ cells as
+cells (a ∷ windows) = map cell_of a.dimensions ++ cells windows
 
 wide_cells : (ds : List ℤ) → map cell_of (map (converted LongLong) ds) ≡ map cell_of ds
 wide_cells [] = refl
@@ -203,7 +203,7 @@ module _ (w : World) (fs : List Function) (calls : Calls) (n base line : ℕ) (t
       ∙ append_assoc (reverse rest) (reverse (map cell_of ds)) st)
 
   measured_means : (parts : List Part) (kinds : List IntType) (vs : List ℤ) → ArePartsOf signatures types kinds parts → AllIn kinds vs → (above : ℕ) (qs : List Piece) (st : List ℕ) → Holds above st → (tape : Tape)
-      → runs (measured signatures line above parts ++ qs) st tape ≡ then_do (pointers w args line parts vs tape) (λ as u. runs qs (reverse (cells as) ++ st) u)
+      → runs (measured signatures line above parts ++ qs) st tape ≡ then_do (pointers w args line parts vs tape) (λ windows u. runs qs (reverse (cells windows) ++ st) u)
   measured_means [] [] [] are h above qs st holds tape = refl
   measured_means (Scalar ∷ parts) (t ∷ kinds) (v ∷ vs) are h above qs st holds tape = measured_means parts kinds vs are h.1 above qs st holds tape
   measured_means (Window direction element is_strided dims ∷ parts) (t ∷ kinds) (v ∷ vs) are h above qs st holds tape =
@@ -212,9 +212,9 @@ module _ (w : World) (fs : List Function) (calls : Calls) (n base line : ℕ) (t
       ∙ dims_mean dims are.3 above (measured signatures line (above + count_of dims) parts ++ qs) st holds tape
       ∙ Memory.then_where (λ ds. count_of dims ≡ length ds) (values_of w calls_nothing 0 mode line dims tape) (dims_count dims tape) (λ ds u count.
       measured_means parts kinds vs are.4 h.1 (above + count_of dims) qs (stacked ds st) (subst (λ k. Holds (above + k) (stacked ds st)) (sym count) (holds_over ds above st holds)) u
-      ∙ then_same (pointers w args line parts vs u) (λ as u'. ap (λ cs. runs qs cs u') (laid ds (cells as) st))
-      ∙ sym (then_assoc (pointers w args line parts vs u) (λ as u'. Goes (window ds ∷ as) u') (λ as u'. runs qs (reverse (cells as) ++ st) u')))
-      ∙ sym (then_assoc (values_of w calls_nothing 0 mode line dims tape) (λ ds u. then_do (pointers w args line parts vs u) (λ as u'. Goes (window ds ∷ as) u')) (λ as u. runs qs (reverse (cells as) ++ st) u))
+      ∙ then_same (pointers w args line parts vs u) (λ windows u'. ap (λ cs. runs qs cs u') (laid ds (cells windows) st))
+      ∙ sym (then_assoc (pointers w args line parts vs u) (λ windows u'. Goes (window ds ∷ windows) u') (λ windows u'. runs qs (reverse (cells windows) ++ st) u')))
+      ∙ sym (then_assoc (values_of w calls_nothing 0 mode line dims tape) (λ ds u. then_do (pointers w args line parts vs u) (λ windows u'. Goes (window ds ∷ windows) u')) (λ windows u. runs qs (reverse (cells windows) ++ st) u))
   measured_means [] (t ∷ kinds) vs are h above qs st holds tape = absurd are
   measured_means [] [] (v ∷ vs) are h above qs st holds tape = absurd h
   measured_means (part ∷ parts) [] vs are h above qs st holds tape = absurd are
@@ -222,33 +222,33 @@ module _ (w : World) (fs : List Function) (calls : Calls) (n base line : ℕ) (t
 
   -- what is given for the pointers is what the instruction takes
   abbrev Fits : List Part → List IntType → List ℤ → List Argument → Type 0
-  Fits parts kinds vs as =
-      (pointers_of (map shape_of_part parts) (narrowed_to (map width_of kinds) (map cell_of vs)) (cells as) ≡ as) × (length (cells as) ≡ all_dimensions (map shape_of_part parts))
+  Fits parts kinds vs windows =
+      (pointers_of (map shape_of_part parts) (narrowed_to (map width_of kinds) (map cell_of vs)) (cells windows) ≡ windows) × (length (cells windows) ≡ all_dimensions (map shape_of_part parts))
 
-  window_fits : (parts : List Part) (kinds : List IntType) (vs : List ℤ) (v : ℤ) (direction : _) (element : ℕ) (is_strided : Bool) (dims : Expressions) (ds : List ℤ) (as : List Argument) → count_of dims ≡ length ds → Fits parts kinds vs as
+  window_fits : (parts : List Part) (kinds : List IntType) (vs : List ℤ) (v : ℤ) (direction : _) (element : ℕ) (is_strided : Bool) (dims : Expressions) (ds : List ℤ) (windows : List Argument) → count_of dims ≡ length ds → Fits parts kinds vs windows
       → Fits (Window direction element is_strided dims ∷ parts) (UInt ∷ kinds) (v ∷ vs)
-      (record { base = core.address_of v; element = element; dimensions = map (converted LongLong) ds; is_strided = is_strided; direction = direction } ∷ as)
-  window_fits parts kinds vs v direction element is_strided dims ds as count fits =
+      (record { base = core.address_of v; element = element; dimensions = map (converted LongLong) ds; is_strided = is_strided; direction = direction } ∷ windows)
+  window_fits parts kinds vs v direction element is_strided dims ds windows count fits =
       let own = map cell_of (map (converted LongLong) ds) in
-      let many : length own ≡ length ds = length-map cell_of (map (converted LongLong) ds) ∙ length-map (converted LongLong) ds in
-      let here : take (count_of dims) (own ++ cells as) ≡ own = ap (λ k. take k (own ++ cells as)) (count ∙ sym many) ∙ take-append_seam own (cells as) in
-      let rest : drop (count_of dims) (own ++ cells as) ≡ cells as = ap (λ k. drop k (own ++ cells as)) (count ∙ sym many) ∙ drop-append_seam own (cells as) in
+      let many : length own ≡ length ds = length-map (map (converted LongLong) ds) cell_of ∙ length-map ds (converted LongLong) in
+      let here : take (count_of dims) (own ++ cells windows) ≡ own = ap (λ k. take k (own ++ cells windows)) (count ∙ sym many) ∙ take-append_seam own (cells windows) in
+      let rest : drop (count_of dims) (own ++ cells windows) ≡ cells windows = ap (λ k. drop k (own ++ cells windows)) (count ∙ sym many) ∙ drop-append_seam own (cells windows) in
       let shapes = map shape_of_part parts in
       let values = narrowed_to (map width_of kinds) (map cell_of vs) in
-      (ap (λ b. record { base = b; element = element; dimensions = map signed (take (count_of dims) (own ++ cells as)); is_strided = is_strided; direction = direction } ∷ pointers_of shapes values (drop (count_of dims) (own ++ cells as))) (low_address (low-cell v))
-      ∙ ap (λ cs. record { base = core.address_of v; element = element; dimensions = map signed cs; is_strided = is_strided; direction = direction } ∷ pointers_of shapes values (drop (count_of dims) (own ++ cells as))) here
-      ∙ ap (λ zs. record { base = core.address_of v; element = element; dimensions = zs; is_strided = is_strided; direction = direction } ∷ pointers_of shapes values (drop (count_of dims) (own ++ cells as))) (signed_cells ds)
+      (ap (λ b. record { base = b; element = element; dimensions = map signed (take (count_of dims) (own ++ cells windows)); is_strided = is_strided; direction = direction } ∷ pointers_of shapes values (drop (count_of dims) (own ++ cells windows))) (low_address (low-cell v))
+      ∙ ap (λ cs. record { base = core.address_of v; element = element; dimensions = map signed cs; is_strided = is_strided; direction = direction } ∷ pointers_of shapes values (drop (count_of dims) (own ++ cells windows))) here
+      ∙ ap (λ zs. record { base = core.address_of v; element = element; dimensions = zs; is_strided = is_strided; direction = direction } ∷ pointers_of shapes values (drop (count_of dims) (own ++ cells windows))) (signed_cells ds)
       ∙ ap (λ cs. record { base = core.address_of v; element = element; dimensions = map (converted LongLong) ds; is_strided = is_strided; direction = direction } ∷ pointers_of shapes values cs) rest
-      ∙ ap (λ as'. record { base = core.address_of v; element = element; dimensions = map (converted LongLong) ds; is_strided = is_strided; direction = direction } ∷ as') fits.0,
-      length-append own (cells as) ∙ ap (λ k. k + length (cells as)) (many ∙ sym count) ∙ ap (λ k. count_of dims + k) fits.1)
+      ∙ ap (λ windows2. record { base = core.address_of v; element = element; dimensions = map (converted LongLong) ds; is_strided = is_strided; direction = direction } ∷ windows2) fits.0,
+      length-append own (cells windows) ∙ ap (λ k. k + length (cells windows)) (many ∙ sym count) ∙ ap (λ k. count_of dims + k) fits.1)
 
   pointers_fit : (parts : List Part) (kinds : List IntType) (vs : List ℤ) → ArePartsOf signatures types kinds parts → AllIn kinds vs → (tape : Tape) → Comes (Fits parts kinds vs) (pointers w args line parts vs tape)
   pointers_fit [] [] [] are h tape = (refl, refl)
   pointers_fit (Scalar ∷ parts) (t ∷ kinds) (v ∷ vs) are h tape = pointers_fit parts kinds vs are h.1 tape
   pointers_fit (Window direction element is_strided dims ∷ parts) (t ∷ kinds) (v ∷ vs) are h tape =
       gives_then (λ ds. count_of dims ≡ length ds) (Fits (Window direction element is_strided dims ∷ parts) (t ∷ kinds) (v ∷ vs)) (values_of w calls_nothing 0 mode line dims tape) _ (dims_count dims tape) (λ ds u count.
-      gives_then (Fits parts kinds vs) (Fits (Window direction element is_strided dims ∷ parts) (t ∷ kinds) (v ∷ vs)) (pointers w args line parts vs u) _ (pointers_fit parts kinds vs are.4 h.1 u) (λ as u' fits.
-      subst (λ t. Fits (Window direction element is_strided dims ∷ parts) (t ∷ kinds) (v ∷ vs) _) (sym are.0) (window_fits parts kinds vs v direction element is_strided dims ds as count fits)))
+      gives_then (Fits parts kinds vs) (Fits (Window direction element is_strided dims ∷ parts) (t ∷ kinds) (v ∷ vs)) (pointers w args line parts vs u) _ (pointers_fit parts kinds vs are.4 h.1 u) (λ windows u' fits.
+      subst (λ t. Fits (Window direction element is_strided dims ∷ parts) (t ∷ kinds) (v ∷ vs) _) (sym are.0) (window_fits parts kinds vs v direction element is_strided dims ds windows count fits)))
   pointers_fit [] (t ∷ kinds) vs are h tape = absurd are
   pointers_fit [] [] (v ∷ vs) are h tape = absurd h
   pointers_fit (part ∷ parts) [] vs are h tape = absurd are
@@ -277,7 +277,7 @@ module _ (w : World) (fs : List Function) (call : Calling) (calls : Calls) (n ba
   module _ (k : ℕ) (f : Function) (found : slice_get fs k ≡ Some f) (vs : List ℤ) (vs_in : AllIn f.parameters vs) (qs : List Piece) (st : List ℕ) where
     invoked : (tape : Tape) → (is_none f.task || not (makes_tasks tape)) ≡ true → plain_runs (Invoke line k (length vs) ∷ qs) (stacked vs st) tape ≡ then_do (call k vs base line tape) (λ v u. plain_runs qs (cell_of v ∷ st) u)
     invoked tape no_task =
-        ap (λ o. then_do o (on_fall (means w calls n base (row qs)))) (invoke_means w calls n base line k (length vs) Plain (map cell_of vs) st tape (length-map cell_of vs)
+        ap (λ o. then_do o (on_fall (means w calls n base (row qs)))) (invoke_means w calls n base line k (length vs) Plain (map cell_of vs) st tape (length-map vs cell_of)
         ∙ ap (λ o. then_do o (meaning.given Plain st)) (agrees.plain k f found vs (all_in_length f.parameters vs vs_in) base line tape no_task))
         ∙ given_back (call k vs base line tape) qs st
 
@@ -288,14 +288,14 @@ module _ (w : World) (fs : List Function) (call : Calling) (calls : Calls) (n ba
       abbrev submitting : List Piece
       submitting = Do line (ops.Mark marks.Outside) ∷ Submit line k (length vs) (all_dimensions (shape_of task).arguments) ∷ qs
 
-      submitted : (as : List Argument) (u : Tape) → Fits w fs calls n base line f.parameters vs vs_in task.parts f.parameters vs as
-          → means w calls n base (row submitting) (Measuring vs) (reverse (cells as) ++ stacked vs st) u ≡ then_do (agrees.told k vs base line as u) (λ v u'. plain_runs qs (cell_of v ∷ st) u')
-      submitted as u fits =
+      submitted : (windows : List Argument) (u : Tape) → Fits w fs calls n base line f.parameters vs vs_in task.parts f.parameters vs windows
+          → means w calls n base (row submitting) (Measuring vs) (reverse (cells windows) ++ stacked vs st) u ≡ then_do (agrees.told k vs base line windows u) (λ v u'. plain_runs qs (cell_of v ∷ st) u')
+      submitted windows u fits =
           ap (λ o. then_do o (on_fall (means w calls n base (row qs))))
-          (submit_means w calls n base line k (length vs) (all_dimensions (shape_of task).arguments) Plain (map cell_of vs) (cells as) st u (length-map cell_of vs) fits.1
-          ∙ ap (λ o. then_do o (meaning.given Plain st)) (agrees.submits k f task found is vs (all_in_length f.parameters vs vs_in) (cells as) base line u
-          ∙ ap (λ as'. then_do (agrees.told k vs base line as' u) code.given) fits.0))
-          ∙ given_back (agrees.told k vs base line as u) qs st
+          (submit_means w calls n base line k (length vs) (all_dimensions (shape_of task).arguments) Plain (map cell_of vs) (cells windows) st u (length-map vs cell_of) fits.1
+          ∙ ap (λ o. then_do o (meaning.given Plain st)) (agrees.submits k f task found is vs (all_in_length f.parameters vs vs_in) (cells windows) base line u
+          ∙ ap (λ windows2. then_do (agrees.told k vs base line windows2 u) code.given) fits.0))
+          ∙ given_back (agrees.told k vs base line windows u) qs st
 
       made : (tape : Tape) → makes_tasks tape ≡ true
           → means w calls n base (row (measured (map signature fs) line (length vs) task.parts ++ submitting)) (Measuring []) (stacked vs st) tape ≡ then_do (call k vs base line tape) (λ v u. plain_runs qs (cell_of v ∷ st) u)
@@ -303,7 +303,7 @@ module _ (w : World) (fs : List Function) (call : Calling) (calls : Calls) (n ba
           row_modeless w calls n base (measured (map signature fs) line (length vs) task.parts) submitting (measured_modeless (map signature fs) line (length vs) task.parts) (λ a b st' t. refl) [] vs (stacked vs st) tape
           ∙ measured_means w fs calls n base line f.parameters vs vs_in task.parts f.parameters vs (typed k f task found is) vs_in (length vs) submitting (stacked vs st) (argument_there f.parameters vs st vs_in) tape
           ∙ Memory.then_where (Fits w fs calls n base line f.parameters vs vs_in task.parts f.parameters vs) (pointers w vs line task.parts vs tape)
-          (pointers_fit w fs calls n base line f.parameters vs vs_in task.parts f.parameters vs (typed k f task found is) vs_in tape) (λ as u fits. submitted as u fits)
+          (pointers_fit w fs calls n base line f.parameters vs vs_in task.parts f.parameters vs (typed k f task found is) vs_in tape) (λ windows u fits. submitted windows u fits)
           ∙ sym (then_assoc (pointers w vs line task.parts vs tape) (agrees.told k vs base line) (λ v u. plain_runs qs (cell_of v ∷ st) u))
           ∙ ap (λ o. then_do o (λ v u. plain_runs qs (cell_of v ∷ st) u)) (sym (agrees.measured k f task found is vs base line tape makes))
 
