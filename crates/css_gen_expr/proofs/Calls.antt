@@ -4,6 +4,7 @@ use Rattle.std.specs.Prelude.{slice_get, All}
 use Rattle.std.proofs.Math.Seq.{take-append_seam, drop-append_seam}
 use Rattle.std.proofs.lemmas.List.{append_assoc, reverse-append, length-map}
 use Rattle.std.proofs.lemmas.Option.{same_Some, slice_get-map}
+use Rattle.css_base.specs.declared.direction.Direction.{Direction}
 use Rattle.css_base.specs.declared.int_type.IntType.{IntType}
 use Rattle.css_base.specs.declared.int_type.IntType.TheVariants.{UInt, LongLong}
 use Rattle.css_num.specs.Types.{IsInRange}
@@ -148,6 +149,9 @@ signed_cells (d ∷ ds) =
     ap (λ z. z ∷ map signed (map cell_of (map (converted LongLong) ds))) (signed-cell LongLong (converted LongLong d) refl (converted_in_range LongLong d))
     ∙ ap (λ zs. converted LongLong d ∷ zs) (signed_cells ds)
 
+none_more : (n : ℕ) → n ≡ 0 + n
+none_more n = omega arith
+
 module _ (w : World) (fs : List Function) (calls : Calls) (n base line : ℕ) (types : List IntType) (args : List ℤ) (args_in : AllIn types args) where
   abbrev signatures : List Signature
   signatures = map signature fs
@@ -225,7 +229,7 @@ module _ (w : World) (fs : List Function) (calls : Calls) (n base line : ℕ) (t
   Fits parts kinds vs windows =
       (pointers_of (map shape_of_part parts) (narrowed_to (map width_of kinds) (map cell_of vs)) (cells windows) ≡ windows) × (length (cells windows) ≡ all_dimensions (map shape_of_part parts))
 
-  window_fits : (parts : List Part) (kinds : List IntType) (vs : List ℤ) (v : ℤ) (direction : _) (element : ℕ) (is_strided : Bool) (dims : Expressions) (ds : List ℤ) (windows : List Argument) → count_of dims ≡ length ds → Fits parts kinds vs windows
+  window_fits : (parts : List Part) (kinds : List IntType) (vs : List ℤ) (v : ℤ) (direction : Direction) (element : ℕ) (is_strided : Bool) (dims : Expressions) (ds : List ℤ) (windows : List Argument) → count_of dims ≡ length ds → Fits parts kinds vs windows
       → Fits (Window direction element is_strided dims ∷ parts) (UInt ∷ kinds) (v ∷ vs)
       (record { base = core.address_of v; element = element; dimensions = map (converted LongLong) ds; is_strided = is_strided; direction = direction } ∷ windows)
   window_fits parts kinds vs v direction element is_strided dims ds windows count fits =
@@ -244,7 +248,8 @@ module _ (w : World) (fs : List Function) (calls : Calls) (n base line : ℕ) (t
 
   pointers_fit : (parts : List Part) (kinds : List IntType) (vs : List ℤ) → ArePartsOf signatures types kinds parts → AllIn kinds vs → (tape : Tape) → Comes (Fits parts kinds vs) (pointers w args line parts vs tape)
   pointers_fit [] [] [] are h tape = (refl, refl)
-  pointers_fit (Scalar ∷ parts) (t ∷ kinds) (v ∷ vs) are h tape = pointers_fit parts kinds vs are h.1 tape
+  pointers_fit (Scalar ∷ parts) (t ∷ kinds) (v ∷ vs) are h tape =
+      Memory.comes_as (Fits parts kinds vs) (Fits (Scalar ∷ parts) (t ∷ kinds) (v ∷ vs)) (pointers w args line parts vs tape) (λ found fits. (fits.0, fits.1 ∙ none_more (all_dimensions (map shape_of_part parts)))) (pointers_fit parts kinds vs are h.1 tape)
   pointers_fit (Window direction element is_strided dims ∷ parts) (t ∷ kinds) (v ∷ vs) are h tape =
       gives_then (λ ds. count_of dims ≡ length ds) (Fits (Window direction element is_strided dims ∷ parts) (t ∷ kinds) (v ∷ vs)) (values_of w calls_nothing 0 mode line dims tape) _ (dims_count dims tape) (λ ds u count.
       gives_then (Fits parts kinds vs) (Fits (Window direction element is_strided dims ∷ parts) (t ∷ kinds) (v ∷ vs)) (pointers w args line parts vs u) _ (pointers_fit parts kinds vs are.4 h.1 u) (λ windows u' fits.
@@ -259,11 +264,11 @@ module _ (w : World) (fs : List Function) (calls : Calls) (n base line : ℕ) (t
 not_there : {s : Signature} → None ≡ Some s → ⊥
 not_there e = cc
 
-measured_modeless : (signatures : List Signature) (line above : ℕ) (parts : List Part) → IsModeless (row (measured signatures line above parts))
-measured_modeless signatures line above [] = tt
-measured_modeless signatures line above (Scalar ∷ parts) = measured_modeless signatures line above parts
-measured_modeless signatures line above (Window direction element is_strided dims ∷ parts) =
-    both_modeless (all_pieces signatures no_call line above dims) (measured signatures line (above + count_of dims) parts) (all_modeless signatures dims line above) (measured_modeless signatures line (above + count_of dims) parts)
+measured_modeless : (known : List Signature) (line above : ℕ) (parts : List Part) → IsModeless (row (measured known line above parts))
+measured_modeless known line above [] = tt
+measured_modeless known line above (Scalar ∷ parts) = measured_modeless known line above parts
+measured_modeless known line above (Window direction element is_strided dims ∷ parts) =
+    both_modeless (all_pieces known no_call line above dims) (measured known line (above + count_of dims) parts) (all_modeless known dims line above) (measured_modeless known line (above + count_of dims) parts)
 
 module _ (w : World) (fs : List Function) (call : Calling) (calls : Calls) (n base line : ℕ) (agrees : Agrees w fs call calls)
     (typed : (k : ℕ) (f : Function) (task : Task) → slice_get fs k ≡ Some f → f.task ≡ Some task → ArePartsOf (map signature fs) f.parameters f.parameters task.parts) where
