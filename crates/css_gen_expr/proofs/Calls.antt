@@ -253,7 +253,8 @@ module _ (w : World) (fs : List Function) (calls : Calls) (n base line : ℕ) (t
   pointers_fit (Window direction element is_strided dims ∷ parts) (t ∷ kinds) (v ∷ vs) are h tape =
       gives_then (λ ds. count_of dims ≡ length ds) (Fits (Window direction element is_strided dims ∷ parts) (t ∷ kinds) (v ∷ vs)) (values_of w calls_nothing 0 mode line dims tape) _ (dims_count dims tape) (λ ds u count.
       gives_then (Fits parts kinds vs) (Fits (Window direction element is_strided dims ∷ parts) (t ∷ kinds) (v ∷ vs)) (pointers w args line parts vs u) _ (pointers_fit parts kinds vs are.4 h.1 u) (λ windows u' fits.
-      subst (λ t. Fits (Window direction element is_strided dims ∷ parts) (t ∷ kinds) (v ∷ vs) _) (sym are.0) (window_fits parts kinds vs v direction element is_strided dims ds windows count fits)))
+      subst (λ t. Fits (Window direction element is_strided dims ∷ parts) (t ∷ kinds) (v ∷ vs)
+      (record { base = core.address_of v; element = element; dimensions = map (converted LongLong) ds; is_strided = is_strided; direction = direction } ∷ windows)) (sym are.0) (window_fits parts kinds vs v direction element is_strided dims ds windows count fits)))
   pointers_fit [] (t ∷ kinds) vs are h tape = absurd are
   pointers_fit [] [] (v ∷ vs) are h tape = absurd h
   pointers_fit (part ∷ parts) [] vs are h tape = absurd are

@@ -14,3 +14,4 @@ pub mod Whole
 pub mod Modeless
 pub mod Calls
 pub mod Conditions
+pub mod Heights

@@ -2,6 +2,7 @@
 #![tactic(auto)]
 
 mod aim;
+mod instructions;
 mod laws;
 
 pub use aim::Aim;
