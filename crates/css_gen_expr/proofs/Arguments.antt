@@ -1,13 +1,13 @@
 -- Arguments, calls and formatted output mean their pieces.
-use Rattle.std.proofs.Common.{◌≡◌, ℕ, zero, suc, ◌+◌, ◌%◌, ◌^◌, ◌<◌, ℤ, pos, ◌+ℤ◌, Bool, true, false, List, [], ◌∷◌, ◌++◌, map, length, reverse, Option, Some, None, refl, sym, ap, ◌∙◌, subst, arith, lit≤, lit<}
+use Rattle.std.proofs.Common.{◌≡◌, ℕ, suc, ◌+◌, ◌%◌, ◌^◌, ◌<◌, ℤ, pos, false, List, [], ◌∷◌, ◌++◌, map, length, reverse, Some, refl, sym, ap, ◌∙◌, subst, arith, lit≤, lit<}
 use Rattle.std.specs.Prelude.{slice_get}
 use Rattle.std.specs.Fmt.{digits, decimal, signed_decimal}
 use Rattle.std.proofs.lemmas.List.{append_assoc, reverse-append, length-reverse, length-map}
 use Rattle.css_base.specs.declared.int_type.IntType.{IntType}
-use Rattle.css_base.specs.declared.int_type.IntType.TheVariants.{Int, UInt, LongLong, ULongLong}
-use Rattle.css_num.specs.Types.{bits_of, IsInRange}
+use Rattle.css_base.specs.declared.int_type.IntType.TheVariants.{Int, ULongLong}
+use Rattle.css_num.specs.Types.{IsInRange}
 use Rattle.css_num.specs.Conversion.{converted}
-use Rattle.css_num.proofs.Congruence.{modulo-congruent, converted-congruent, congruent_refl}
+use Rattle.css_num.proofs.Congruence.{modulo-congruent, converted-congruent}
 use Rattle.css_num.proofs.Wrapping.{congruent_narrow}
 use Rattle.css_semantics.specs.Dialogue.{Out, World, Tape, Outcome, Goes, Stops, then_do, Mode, ask_in}
 use Rattle.css_core.specs.Core.{Expression, Expressions, Empty, More, Call, Print, Conversion, Character, Signed, Unsigned, Hexadecimal, Wide, Literal, Shown}
@@ -23,16 +23,15 @@ use Rattle.css_isa.specs.Effects as effects
 use Rattle.css_isa.specs.Effects.{on_cell}
 use Rattle.css_isa.specs.declared.code.Op.TheVariants as ops
 use Rattle.css_isa.specs.declared.code.Narrow.TheVariants as narrow
-use Rattle.css_isa.specs.declared.code.Conversion as machine
 use Rattle.css_isa.specs.declared.code.Conversion.TheVariants as conversions
 use Rattle.css_blocks.specs.Pieces.{Piece, Do, row}
 use Rattle.css_blocks.specs.Meaning.{Exits, Falls, on_fall, worked, Calls, means}
 use Rattle.css_blocks.proofs.Equations.{then_assoc, then_same}
 use Rattle.css_gen_expr.specs.declared.aim.Aim.{Aim}
 use Rattle.css_gen_expr.specs.declared.aim.Aim.TheVariants.{Used, Tested, Low, Unused}
-use Rattle.css_gen_expr.specs.Operators.{ending, narrowing}
+use Rattle.css_gen_expr.specs.Operators.{ending}
 use Rattle.css_gen_expr.specs.Expressions.{done, conversion_of, written, drops, summed, sunk, print_code, all_pieces}
-use Rattle.css_gen_expr.proofs.Cells.{IsLike, IsLow, like-cell, low-cell, like-sum, wide_cell, congruent-cell}
+use Rattle.css_gen_expr.proofs.Cells.{IsLow, low-cell, like-sum, wide_cell, congruent-cell}
 use Rattle.css_gen_expr.proofs.Operators.{run, narrows}
 use Rattle.css_gen_expr.proofs.Arithmetic.{done_both}
 use Rattle.css_gen_expr.proofs.Memory

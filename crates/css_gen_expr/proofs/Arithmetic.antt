@@ -1,8 +1,8 @@
 -- Operators mean their pieces.
-use Rattle.std.proofs.Common.{◌≡◌, ℕ, suc, ◌+◌, ◌^◌, ◌≤◌, ℤ, pos, negsuc, ◌-ℤ◌, neg_ℤ, Bool, true, false, not, ◌&&◌, ◌||◌, if◌then◌else◌, List, [], ◌∷◌, ◌++◌, Option, Some, None, refl, sym, ap, ◌∙◌, subst, arith, lit≤}
+use Rattle.std.proofs.Common.{◌≡◌, ℕ, suc, ◌≤◌, ℤ, negsuc, ◌-ℤ◌, neg_ℤ, Bool, true, false, not, ◌&&◌, ◌||◌, if◌then◌else◌, List, [], ◌∷◌, ◌++◌, Option, Some, refl, sym, ap, ◌∙◌, subst, arith, lit≤}
 use Rattle.std.specs.Prelude.{slice_get}
 use Rattle.std.proofs.lemmas.List.{append_assoc}
-use borrow.Author.Differences.{up, down, sum_is_lem, neg_is, at_most_in, le_out}
+use borrow.Author.Differences.{sum_is_lem, neg_is, at_most_in, le_out}
 use Rattle.css_base.specs.declared.int_type.IntType.{IntType}
 use Rattle.css_base.specs.declared.int_type.IntType.TheVariants.{UChar, SChar, Short, UShort, Int, UInt, Long, ULong, LongLong, ULongLong}
 use Rattle.css_num.specs.declared.operators.UnOp.{UnOp}
@@ -13,26 +13,25 @@ use Rattle.css_num.specs.Types.{bits_of, has_sign, least, greatest, IsInRange}
 use Rattle.css_num.specs.Conversion.{converted}
 use Rattle.css_num.specs.Operators.{is_division, unary_value, binary_value}
 use Rattle.css_num.proofs.Ranges.{converted-value}
-use Rattle.css_semantics.specs.Dialogue.{World, Tape, Outcome, Goes, Stops, then_do, Mode}
+use Rattle.css_semantics.specs.Dialogue.{World, Tape, Outcome, Goes, then_do, Mode}
 use Rattle.css_core.specs.Core.{Expression, Unary, Binary}
 use Rattle.css_core.specs.Quiet.{is_quiet}
-use Rattle.css_core.specs.Expressions.{Calling, argument_in, given, value_of}
+use Rattle.css_core.specs.Expressions.{Calling, argument_in, given}
 use Rattle.css_core.specs.Typed.{Signature, HasType, is_shift, IsSameUnless}
 use Rattle.css_core.proofs.Leaving.{Comes}
 use Rattle.css_core.proofs.InRange.{CallsFit, fits_value}
-use Rattle.css_isa.specs.Cells.{cell_of, negative_of, complement_of}
+use Rattle.css_isa.specs.Cells.{cell_of, complement_of}
 use Rattle.css_isa.specs.declared.code.Op.{Op}
 use Rattle.css_isa.specs.declared.code.Op.TheVariants as ops
-use Rattle.css_blocks.specs.Pieces.{Piece, Do, row}
-use Rattle.css_blocks.specs.Meaning.{Exits, Calls, means}
+use Rattle.css_blocks.specs.Pieces.{Piece, Do}
+use Rattle.css_blocks.specs.Meaning.{Exits, Calls}
 use Rattle.css_blocks.proofs.Equations.{then_assoc, then_same}
 use Rattle.css_gen_expr.specs.declared.aim.Aim.{Aim}
 use Rattle.css_gen_expr.specs.declared.aim.Aim.TheVariants.{Used, Tested, Low, Unused}
-use Rattle.css_gen_expr.specs.Operators.{low_if, narrowing, is_wide, is_narrow, takes_low, operation, operated, straight, unary_wraps, unary_code, unary_takes, binary_code, binary_takes}
-use Rattle.css_gen_expr.specs.Expressions.{done, raised, pieces_of}
-use Rattle.css_gen_expr.proofs.Cells.{IsLike, IsLow, like-cell, low-cell, like_is, like-negative, like-complement}
-use Rattle.css_gen_expr.proofs.Operators.{TakesLow, LowIf, Taken, run, narrows, wrapped, binary_means}
-use Rattle.css_gen_expr.proofs.Tests.{of}
+use Rattle.css_gen_expr.specs.Operators.{low_if, narrowing, is_wide, is_narrow, takes_low, operated, straight}
+use Rattle.css_gen_expr.specs.Expressions.{done, raised}
+use Rattle.css_gen_expr.proofs.Cells.{IsLow, like-cell, like_is, like-negative, like-complement}
+use Rattle.css_gen_expr.proofs.Operators.{TakesLow, Taken, run, narrows, wrapped, binary_means}
 use Rattle.css_gen_expr.proofs.Memory
 
 pub done_both : (line : ℕ) (xs ys : List Op) (qs : List Piece) → done line (xs ++ ys) ++ qs ≡ done line xs ++ (done line ys ++ qs)

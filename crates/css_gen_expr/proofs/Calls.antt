@@ -1,6 +1,6 @@
 -- Calls of functions and tasks mean their pieces.
-use Rattle.std.proofs.Common.{◌≡◌, ℕ, zero, suc, ◌+◌, ◌-◌, ◌*◌, ◌<◌, ◌^◌, ◌%◌, ℤ, pos, Bool, true, false, not, ◌||◌, ◌&&◌, IsTrue, if◌then◌else◌, List, [], ◌∷◌, ◌++◌, map, length, take, drop, reverse, get_or, Option, Some, None, is_none, option_map, refl, sym, ap, ◌∙◌, subst, arith, lit<, length-append}
-use Rattle.std.specs.Prelude.{slice_get, All}
+use Rattle.std.proofs.Common.{◌≡◌, ℕ, zero, suc, ◌+◌, ◌-◌, ◌<◌, ℤ, pos, Bool, true, false, not, ◌||◌, ◌&&◌, IsTrue, if◌then◌else◌, List, [], ◌∷◌, ◌++◌, map, length, take, drop, reverse, get_or, Option, Some, None, is_none, option_map, refl, sym, ap, ◌∙◌, subst, arith, length-append}
+use Rattle.std.specs.Prelude.{slice_get}
 use Rattle.std.proofs.Math.Seq.{take-append_seam, drop-append_seam}
 use Rattle.std.proofs.lemmas.List.{append_assoc, reverse-append, length-map}
 use Rattle.std.proofs.lemmas.Option.{same_Some, slice_get-map}
@@ -9,14 +9,14 @@ use Rattle.css_base.specs.declared.int_type.IntType.{IntType}
 use Rattle.css_base.specs.declared.int_type.IntType.TheVariants.{UInt, LongLong}
 use Rattle.css_num.specs.Types.{IsInRange}
 use Rattle.css_num.specs.Conversion.{converted}
-use Rattle.css_num.proofs.Ranges.{converted-value, converted_in_range}
-use Rattle.css_semantics.specs.Dialogue.{Argument, World, Tape, Outcome, Goes, Stops, then_do, Mode, Plain, Waiting, Measuring}
+use Rattle.css_num.proofs.Ranges.{converted_in_range}
+use Rattle.css_semantics.specs.Dialogue.{Argument, World, Tape, Outcome, Goes, Stops, then_do, Mode, Plain, Measuring}
 use Rattle.css_semantics.specs.Tasks.{makes_tasks}
-use Rattle.css_core.specs.Core.{Expression, Number, Local, Given, Value, Assign, Update, Convert, Unary, Binary, And, Or, Choice, Sequence, Call, Input, Put, Print, Allocate, Expressions, Empty, More, Part, Scalar, Window, Task, Function}
+use Rattle.css_core.specs.Core.{Expression, Number, Given, Convert, Unary, Binary, And, Or, Choice, Sequence, Expressions, Empty, More, Part, Scalar, Window, Task, Function}
 use Rattle.css_core.specs.Quiet.{is_quiet, is_computed}
 use Rattle.css_core.specs.Expressions as core
 use Rattle.css_core.specs.Expressions.{Calling, calls_nothing, argument_in, is_true, given, value_of, values_of}
-use Rattle.css_core.specs.Typed.{Signature, signature, count_of, AreDimensions, ArePartsOf, IsTaskOf, IsTypedFunction}
+use Rattle.css_core.specs.Typed.{Signature, signature, count_of, AreDimensions, ArePartsOf}
 use Rattle.css_core.specs.Functions.{pointers}
 use Rattle.css_core.proofs.Leaving.{Comes, gives_then}
 use Rattle.css_core.proofs.InRange.{CallsFit, zero_in_range}
@@ -36,7 +36,7 @@ use Rattle.css_gen_expr.proofs.Cells.{low-cell, low_address, long_cell}
 use Rattle.css_gen_expr.proofs.CellsExact.{signed-cell}
 use Rattle.css_gen_expr.proofs.Operators.{run}
 use Rattle.css_gen_expr.proofs.Choices.{row_then}
-use Rattle.css_gen_expr.proofs.Modeless.{Forgets, row_modeless, all_modeless, both_modeless, IsModeless}
+use Rattle.css_gen_expr.proofs.Modeless.{row_modeless, all_modeless, both_modeless, IsModeless}
 use Rattle.css_gen_expr.proofs.Memory
 use Rattle.css_gen_expr.proofs.Arguments
 use Rattle.css_gen_expr.proofs.Arguments.{stacked, stacked_more, stacked_at, AllIn, all_in_length}
@@ -238,13 +238,14 @@ module _ (w : World) (fs : List Function) (calls : Calls) (n base line : ℕ) (t
       let here : take (count_of dims) (own ++ cells windows) ≡ own = ap (λ k. take k (own ++ cells windows)) (count ∙ sym many) ∙ take-append_seam own (cells windows) in
       let rest : drop (count_of dims) (own ++ cells windows) ≡ cells windows = ap (λ k. drop k (own ++ cells windows)) (count ∙ sym many) ∙ drop-append_seam own (cells windows) in
       let shapes = map shape_of_part parts in
-      let values = narrowed_to (map width_of kinds) (map cell_of vs) in
-      (ap (λ b. record { base = b; element = element; dimensions = map signed (take (count_of dims) (own ++ cells windows)); is_strided = is_strided; direction = direction } ∷ pointers_of shapes values (drop (count_of dims) (own ++ cells windows))) (low_address (low-cell v))
-      ∙ ap (λ cs. record { base = core.address_of v; element = element; dimensions = map signed cs; is_strided = is_strided; direction = direction } ∷ pointers_of shapes values (drop (count_of dims) (own ++ cells windows))) here
-      ∙ ap (λ zs. record { base = core.address_of v; element = element; dimensions = zs; is_strided = is_strided; direction = direction } ∷ pointers_of shapes values (drop (count_of dims) (own ++ cells windows))) (signed_cells ds)
-      ∙ ap (λ cs. record { base = core.address_of v; element = element; dimensions = map (converted LongLong) ds; is_strided = is_strided; direction = direction } ∷ pointers_of shapes values cs) rest
-      ∙ ap (λ windows2. record { base = core.address_of v; element = element; dimensions = map (converted LongLong) ds; is_strided = is_strided; direction = direction } ∷ windows2) fits.0,
-      length-append own (cells windows) ∙ ap (λ k. k + length (cells windows)) (many ∙ sym count) ∙ ap (λ k. count_of dims + k) fits.1)
+      let values = narrowed_to (map width_of kinds) (map cell_of vs) in (
+        ap (λ b. record { base = b; element = element; dimensions = map signed (take (count_of dims) (own ++ cells windows)); is_strided = is_strided; direction = direction } ∷ pointers_of shapes values (drop (count_of dims) (own ++ cells windows))) (low_address (low-cell v))
+            ∙ ap (λ cs. record { base = core.address_of v; element = element; dimensions = map signed cs; is_strided = is_strided; direction = direction } ∷ pointers_of shapes values (drop (count_of dims) (own ++ cells windows))) here
+            ∙ ap (λ zs. record { base = core.address_of v; element = element; dimensions = zs; is_strided = is_strided; direction = direction } ∷ pointers_of shapes values (drop (count_of dims) (own ++ cells windows))) (signed_cells ds)
+            ∙ ap (λ cs. record { base = core.address_of v; element = element; dimensions = map (converted LongLong) ds; is_strided = is_strided; direction = direction } ∷ pointers_of shapes values cs) rest
+            ∙ ap (λ windows2. record { base = core.address_of v; element = element; dimensions = map (converted LongLong) ds; is_strided = is_strided; direction = direction } ∷ windows2) fits.0,
+        length-append own (cells windows) ∙ ap (λ k. k + length (cells windows)) (many ∙ sym count) ∙ ap (λ k. count_of dims + k) fits.1,
+      )
 
   pointers_fit : (parts : List Part) (kinds : List IntType) (vs : List ℤ) → ArePartsOf signatures types kinds parts → AllIn kinds vs → (tape : Tape) → Comes (Fits parts kinds vs) (pointers w args line parts vs tape)
   pointers_fit [] [] [] are h tape = (refl, refl)

@@ -3,14 +3,13 @@ use Rattle.std.proofs.Common.{◌≡◌, ℕ, zero, suc, ◌+◌, ◌-◌, ◌*�
 use Rattle.std.proofs.Math.Arith.{mod-mul}
 use Rattle.std.proofs.Math.Nat.{pow-suc}
 use Rattle.std.proofs.lemmas.Nat.{pow_pos, mod_below}
-use borrow.Author.Differences.{same_in, sum_is_lem, neg_is, at_most_in, le_out}
+use borrow.Author.Differences.{same_in, sum_is_lem, neg_is}
 use Rattle.css_base.specs.declared.int_type.IntType.{IntType}
 use Rattle.css_base.specs.declared.int_type.IntType.TheVariants.{UChar, SChar, Short, UShort, Int, UInt, Long, ULong, LongLong, ULongLong}
-use Rattle.css_num.specs.Types.{bits_of, least, greatest, IsInRange}
-use Rattle.css_num.specs.Conversion.{modulo, representation, converted}
+use Rattle.css_num.specs.Types.{bits_of}
+use Rattle.css_num.specs.Conversion.{modulo, converted}
 use Rattle.css_num.specs.Operators.{truth_value}
-use Rattle.css_num.proofs.Congruence.{AreCongruent, congruent_refl, congruent_sym, congruent_trans, congruent-add, congruent-sub, congruent-mul, congruent-neg, congruent_below, congruent-modulo, modulo-congruent, congruent-converted, converted-congruent, modulo_below}
-use Rattle.css_num.proofs.Ranges.{converted-value}
+use Rattle.css_num.proofs.Congruence.{AreCongruent, congruent_refl, congruent_sym, congruent_trans, congruent-add, congruent-sub, congruent-mul, congruent-modulo, modulo-congruent, congruent-converted, converted-congruent, modulo_below}
 use Rattle.css_num.proofs.Wrapping.{congruent_narrow}
 use Rattle.css_semantics.specs.Memory.{big_endian_bytes}
 use Rattle.css_core.specs.Expressions as core

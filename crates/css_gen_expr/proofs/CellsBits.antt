@@ -1,19 +1,19 @@
 -- The cells of bitwise operators: the low bits of the result are made of those of the operands, and a signed cell has its sign in all
 -- upper bits.
-use Rattle.std.proofs.Common.{◌≡◌, ℕ, zero, suc, ◌+◌, ◌-◌, ◌*◌, ◌/◌, ◌%◌, ◌^◌, ◌<◌, ◌≤◌, nat_le, ℤ, pos, negsuc, ◌-ℤ◌, neg_ℤ, bit_and, bit_or, bit_xor, refl, sym, ap, ◌∙◌, subst, arith, lit<, lit≤}
+use Rattle.std.proofs.Common.{◌≡◌, ℕ, zero, suc, ◌+◌, ◌-◌, ◌*◌, ◌/◌, ◌%◌, ◌^◌, ◌<◌, ◌≤◌, nat_le, ℤ, pos, negsuc, ◌-ℤ◌, neg_ℤ, bit_and, bit_or, bit_xor, refl, sym, ap, ◌∙◌, subst, arith}
 use Rattle.std.proofs.lemmas.Bool.{cond-true, cond-false, le-leb, lt-leb}
 use Rattle.std.proofs.lemmas.Nat.{and_block, or_block, xor_block, or_lt, xor_lt, pow_pos, mod_below, div-add-mod'}
 use lib.Bits.{and_lt}
 use borrow.Author.Differences.{same_in, sum_is_lem, neg_is, le_out}
 use Rattle.css_base.specs.declared.int_type.IntType.{IntType}
-use Rattle.css_base.specs.declared.int_type.IntType.TheVariants.{Int, UInt, Long, ULong, LongLong, ULongLong}
+use Rattle.css_base.specs.declared.int_type.IntType.TheVariants.{Int, UInt}
 use Rattle.css_num.specs.Types.{bits_of, least, greatest, IsInRange}
 use Rattle.css_num.specs.Conversion.{modulo, representation, represented}
 use Rattle.css_num.specs.Operators.{bitwise}
-use Rattle.css_num.proofs.Congruence.{AreCongruent, congruent_refl, congruent_sym, congruent_trans, congruent-modulo, congruent-represented, modulo-congruent, modulo_below}
+use Rattle.css_num.proofs.Congruence.{AreCongruent, congruent_sym, congruent_trans, congruent-modulo, congruent-represented, modulo-congruent, modulo_below}
 use Rattle.css_num.proofs.Wrapping.{congruent_narrow}
 use Rattle.css_isa.specs.Cells.{cell_of}
-use Rattle.css_gen_expr.proofs.Cells.{IsLike, like-cell, like_is, cell_below}
+use Rattle.css_gen_expr.proofs.Cells.{IsLike, like-cell, like_is}
 
 -- an operator on bits: on numbers in two blocks it works on each block, and on a sign that stands 33 times as on the sign
 abbrev upper : ℕ → ℕ

@@ -1,16 +1,14 @@
 -- Cells of numbers in the range of a type: quotients, shifts and comparisons.
-use Rattle.std.proofs.Common.{◌≡◌, ℕ, suc, ◌+◌, ◌-◌, ◌*◌, ◌/◌, ◌%◌, ◌^◌, ◌<◌, ◌≤◌, ℤ, pos, negsuc, ◌*ℤ◌, Bool, true, false, not, nat_eq, nat_lt, int_lt, int_le, int_eq, int_div, int_rem, refl, sym, ap, ◌∙◌, subst, arith, lit<, lit≤}
-use Rattle.std.proofs.lemmas.Nat.{pow_pos, mod_below}
+use Rattle.std.proofs.Common.{◌≡◌, ℕ, ◌/◌, ◌%◌, ◌^◌, ◌<◌, ◌≤◌, ℤ, pos, negsuc, Bool, true, false, not, nat_eq, nat_lt, int_lt, int_le, int_eq, int_div, int_rem, refl, sym, ap, ◌∙◌, subst, arith, lit≤}
 use Rattle.std.proofs.lemmas.Int.{ints}
 use Rattle.std.proofs.lemmas.Bool.Decides.{Decides-eqb, Decides-int_eq, Decides-like, same_from_decides}
 use Rattle.std.proofs.Math.Nat.{div-le_self, mod-le}
-use borrow.Author.Differences.{up, down, same_in, at_most_in, le_out}
+use borrow.Author.Differences.{down, at_most_in, le_out}
 use Rattle.css_base.specs.declared.int_type.IntType.{IntType}
 use Rattle.css_base.specs.declared.int_type.IntType.TheVariants.{UChar, SChar, Short, UShort, Int, UInt, Long, ULong, LongLong, ULongLong}
 use Rattle.css_num.specs.Types.{bits_of, has_sign, least, greatest, IsInRange}
-use Rattle.css_num.specs.Conversion.{modulo, converted}
-use Rattle.css_num.specs.Operators.{truth_value, quotient, remainder, count_of, floor_quotient}
-use Rattle.css_num.proofs.Ranges.{span, wide, converted-value, remainder-is, one_in_range, toward_zero}
+use Rattle.css_num.specs.Operators.{truth_value, quotient, remainder}
+use Rattle.css_num.proofs.Ranges.{span, converted-value, remainder-is, one_in_range, toward_zero}
 use Rattle.css_num.proofs.Congruence.{AreCongruent, congruent_sym, congruent_trans}
 use Rattle.css_num.proofs.Wrapping.{congruent_narrow}
 use Rattle.css_isa.specs.Cells.{cell_of, signed, truth, quotient_of, remainder_of, unsigned_quotient_of, unsigned_remainder_of, are_equal, differ, is_below, is_unsigned_below}

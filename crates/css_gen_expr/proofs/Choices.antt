@@ -1,5 +1,5 @@
 -- Expressions that decide mean their pieces: `!`, `&&`, `||` and the conditional.
-use Rattle.std.proofs.Common.{◌≡◌, ℕ, suc, ℤ, pos, Bool, true, false, not, ◌&&◌, nat_eq, int_eq, if◌then◌else◌, List, [], ◌∷◌, ◌++◌, Option, Some, refl, sym, ap, ◌∙◌}
+use Rattle.std.proofs.Common.{◌≡◌, ℕ, ℤ, pos, Bool, true, false, not, ◌&&◌, nat_eq, int_eq, if◌then◌else◌, List, [], ◌∷◌, ◌++◌, Some, refl, sym, ap, ◌∙◌}
 use Rattle.std.specs.Prelude.{slice_get}
 use Rattle.std.proofs.lemmas.List.{append_assoc}
 use Rattle.css_base.specs.declared.int_type.IntType.{IntType}
@@ -9,22 +9,20 @@ use Rattle.css_num.specs.Operators.{truth_value}
 use Rattle.css_semantics.specs.Dialogue.{World, Tape, Outcome, Goes, Stops, then_do, Mode}
 use Rattle.css_core.specs.Core.{Expression, Unary, And, Or, Choice}
 use Rattle.css_core.specs.Quiet.{is_quiet}
-use Rattle.css_core.specs.Expressions.{Calling, argument_in, is_true, value_of}
+use Rattle.css_core.specs.Expressions.{Calling, argument_in, is_true}
 use Rattle.css_core.specs.Typed.{Signature, HasType}
 use Rattle.css_core.proofs.Leaving.{Comes}
-use Rattle.css_core.proofs.InRange.{CallsFit, fits_value}
-use Rattle.css_isa.specs.Cells.{cell_of, truth, are_equal, differ}
+use Rattle.css_core.proofs.InRange.{CallsFit}
+use Rattle.css_isa.specs.Cells.{cell_of, truth}
 use Rattle.css_isa.specs.declared.code.Op.TheVariants as ops
-use Rattle.css_blocks.specs.Pieces as pieces
-use Rattle.css_blocks.specs.Pieces.{Piece, Skip, Do, When, row}
+use Rattle.css_blocks.specs.Pieces.{Piece, Skip, Do, row}
 use Rattle.css_blocks.specs.Meaning.{Exits, Falls, Jumps, Returns, Sticks, Does, on_fall, Calls, means}
 use Rattle.css_blocks.proofs.Equations.{then_assoc, then_same, if_then}
 use Rattle.css_gen_expr.specs.declared.aim.Aim.{Aim}
 use Rattle.css_gen_expr.specs.declared.aim.Aim.TheVariants.{Used, Tested, Low, Unused}
-use Rattle.css_gen_expr.specs.Operators as operators
-use Rattle.css_gen_expr.specs.Expressions.{done, is_turned, is_truth, truth_code, sides, side, pieces_of}
+use Rattle.css_gen_expr.specs.Expressions.{done, is_turned, is_truth, truth_code, sides, side}
 use Rattle.css_gen_expr.proofs.Cells.{cell_of-truth}
-use Rattle.css_gen_expr.proofs.CellsExact.{zero_test, turned_round, as_it_is}
+use Rattle.css_gen_expr.proofs.CellsExact.{zero_test}
 use Rattle.css_gen_expr.proofs.Operators.{run}
 use Rattle.css_gen_expr.proofs.Tests.{flip, flip_not, not_not, IsTruth, tested, turns, truths, tested_type, tested_fits}
 use Rattle.css_gen_expr.proofs.Memory

@@ -1,13 +1,13 @@
 -- Conditions mean their pieces, and all that is owed of expressions.
-use Rattle.std.proofs.Common.{◌≡◌, ℕ, ℤ, pos, Bool, true, false, not, ◌&&◌, nat_eq, if◌then◌else◌, List, [], ◌∷◌, ◌++◌, map, Option, Some, IsTrue, refl, sym, ap, ◌∙◌, subst, IfSome}
+use Rattle.std.proofs.Common.{◌≡◌, ℕ, ℤ, pos, Bool, true, false, if◌then◌else◌, List, [], ◌∷◌, ◌++◌, map, Some, IsTrue, refl, sym, ap, ◌∙◌, subst, IfSome}
 use Rattle.std.specs.Prelude.{slice_get, All}
-use Rattle.std.proofs.lemmas.List.{append_assoc, append-nil}
+use Rattle.std.proofs.lemmas.List.{append_assoc}
 use Rattle.css_base.specs.declared.int_type.IntType.{IntType}
 use Rattle.css_base.specs.declared.int_type.IntType.TheVariants.{UInt}
 use Rattle.css_num.specs.Types.{IsInRange}
 use Rattle.css_num.specs.Operators.{truth_value}
 use Rattle.css_semantics.specs.Dialogue.{World, Tape, Outcome, Goes, Stops, then_do, Mode, Plain, Waiting}
-use Rattle.css_core.specs.Core.{Expression, Number, Local, Given, Value, Assign, Update, Convert, Unary, Binary, And, Or, Choice, Sequence, Call, Input, Put, Print, Allocate, Task, Function}
+use Rattle.css_core.specs.Core.{Expression, Number, And, Task, Function}
 use Rattle.css_core.specs.Quiet.{is_quiet}
 use Rattle.css_core.specs.Expressions.{Calling, calls_nothing, argument_in, is_true, value_of}
 use Rattle.css_core.specs.Typed.{Signature, signature, HasType, IsTyped, ArePartsOf, IsTaskOf, IsTypedFunction}
@@ -15,7 +15,7 @@ use Rattle.css_core.proofs.Leaving.{Comes}
 use Rattle.css_core.proofs.InRange.{CallsFit, typed_at, zero_in_range}
 use Rattle.css_isa.specs.Cells.{cell_of}
 use Rattle.css_blocks.specs.declared.part.Way.{Way}
-use Rattle.css_blocks.specs.Pieces.{Piece, Skip, When, Exit, Unless, row}
+use Rattle.css_blocks.specs.Pieces.{Piece, Skip, Exit, row}
 use Rattle.css_blocks.specs.Meaning.{Exits, Falls, Jumps, Returns, Sticks, on_fall, Calls, means}
 use Rattle.css_blocks.proofs.Equations.{then_assoc, then_same, if_then}
 use Rattle.css_gen_expr.specs.declared.aim.Aim.TheVariants.{Used, Tested, Unused}
@@ -24,7 +24,6 @@ use Rattle.css_gen_expr.specs.Tests as tests
 use Rattle.css_gen_expr.specs.Calls as code
 use Rattle.css_gen_expr.specs.Calls.{Agrees}
 use Rattle.css_gen_expr.specs.Meaning.{GivesInRange, MeanTheirPieces}
-use Rattle.css_gen_expr.proofs.Operators.{run}
 use Rattle.css_gen_expr.proofs.Tests.{flip, true_of-truth}
 use Rattle.css_gen_expr.proofs.Choices
 use Rattle.css_gen_expr.proofs.Memory

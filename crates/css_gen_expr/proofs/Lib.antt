@@ -14,4 +14,3 @@ pub mod Whole
 pub mod Modeless
 pub mod Calls
 pub mod Conditions
-pub mod Heights

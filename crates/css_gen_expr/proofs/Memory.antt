@@ -1,5 +1,5 @@
 -- What loads, stores and dropped cells do, and the operands of expressions.
-use Rattle.std.proofs.Common.{◌≡◌, ℕ, zero, suc, ◌+◌, ◌-◌, ◌<◌, ◌≤◌, ◌^◌, ◌%◌, ℤ, pos, Bool, true, false, ◌&&◌, if◌then◌else◌, List, [], ◌∷◌, ◌++◌, Option, Some, None, IsTrue, refl, sym, ap, ◌∙◌, subst, arith, lit≤}
+use Rattle.std.proofs.Common.{◌≡◌, ℕ, suc, ◌-◌, ◌<◌, ◌≤◌, ℤ, pos, Bool, true, false, ◌&&◌, List, ◌∷◌, ◌++◌, Some, IsTrue, refl, sym, ap, ◌∙◌, subst, arith, lit≤}
 use Rattle.std.specs.Prelude.{slice_get}
 use Rattle.std.proofs.lemmas.List.{append_assoc}
 use Rattle.std.proofs.lemmas.Bool.{leb-true}
@@ -16,9 +16,7 @@ use Rattle.css_core.specs.Expressions as core
 use Rattle.css_core.specs.Expressions.{Calling, argument_in, load, value_of}
 use Rattle.css_core.specs.Typed.{Signature, HasType}
 use Rattle.css_core.proofs.Leaving.{Comes, gives_after}
-use Rattle.css_core.proofs.InRange.{CallsFit, fits_value}
 use Rattle.css_isa.specs.Cells.{cell_of, address_of, cell_as}
-use Rattle.css_isa.specs.declared.code.Op.TheVariants as ops
 use Rattle.css_blocks.specs.Pieces.{Piece, Do, row}
 use Rattle.css_blocks.specs.Meaning.{Exits, Falls, on_fall, Calls, means}
 use Rattle.css_blocks.proofs.Equations.{then_assoc, then_same}

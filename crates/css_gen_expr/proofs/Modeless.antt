@@ -1,9 +1,8 @@
 -- Pieces of dimensions: what comes behind them can't see with which arguments the mode was entered.
-use Rattle.std.proofs.Common.{◌≡◌, ℕ, zero, suc, ◌-◌, ℤ, pos, Bool, true, false, not, nat_eq, ◌&&◌, ◌||◌, if◌then◌else◌, List, [], ◌∷◌, ◌++◌, refl, sym, ap, ◌∙◌}
-use Rattle.css_base.specs.declared.int_type.IntType.{IntType}
+use Rattle.std.proofs.Common.{◌≡◌, ℕ, suc, ◌-◌, ℤ, pos, Bool, true, false, not, nat_eq, if◌then◌else◌, List, [], ◌∷◌, ◌++◌, refl, sym, ◌∙◌}
 use Rattle.css_base.specs.declared.int_type.IntType.TheVariants.{Int, UInt, LongLong}
 use Rattle.css_num.specs.declared.operators.UnOp.TheVariants as unary
-use Rattle.css_semantics.specs.Dialogue.{World, Tape, Outcome, Goes, Stops, then_do, Mode, Measuring, ask_in}
+use Rattle.css_semantics.specs.Dialogue.{World, Tape, Outcome, Goes, Stops, then_do, Measuring, ask_in}
 use Rattle.css_semantics.specs.Tasks.{makes_tasks}
 use Rattle.css_core.specs.Core.{Expression, Number, Local, Given, Value, Assign, Update, Convert, Unary, Binary, And, Or, Choice, Sequence, Call, Input, Put, Print, Allocate, Expressions, Empty, More}
 use Rattle.css_core.specs.Typed.{Signature, count_of}

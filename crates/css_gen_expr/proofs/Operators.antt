@@ -1,5 +1,5 @@
 -- What the instructions of operators and conversions do.
-use Rattle.std.proofs.Common.{◌≡◌, ℕ, ◌+◌, ◌*◌, ◌/◌, ◌%◌, ◌^◌, ◌<◌, ◌≤◌, ℤ, pos, negsuc, ◌+ℤ◌, ◌*ℤ◌, Bool, true, false, not, ◌&&◌, ◌||◌, nat_eq, int_lt, int_le, int_eq, int_div, if◌then◌else◌, List, [], ◌∷◌, ◌++◌, Option, Some, None, bit_and, bit_or, bit_xor, refl, sym, ap, ◌∙◌, subst, arith, lit≤, lit<}
+use Rattle.std.proofs.Common.{◌≡◌, ℕ, ◌*◌, ◌/◌, ◌%◌, ◌^◌, ◌<◌, ◌≤◌, ℤ, pos, ◌*ℤ◌, Bool, true, false, not, ◌&&◌, ◌||◌, nat_eq, int_lt, int_le, int_eq, int_div, if◌then◌else◌, List, [], ◌∷◌, ◌++◌, Option, Some, None, bit_and, bit_or, bit_xor, refl, sym, ap, ◌∙◌, subst, arith, lit≤, lit<}
 use Rattle.std.proofs.lemmas.Nat.{pow_pos, and_mask, mod_below}
 use Rattle.std.proofs.lemmas.List.{append-nil}
 use Rattle.std.proofs.Math.Nat.{div-le_self}
@@ -8,30 +8,26 @@ use Rattle.css_base.specs.declared.int_type.IntType.{IntType}
 use Rattle.css_base.specs.declared.int_type.IntType.TheVariants.{UChar, SChar, Short, UShort, Int, UInt, Long, ULong, LongLong, ULongLong}
 use Rattle.css_base.specs.declared.ending.FaultKind.{FaultKind}
 use Rattle.css_base.specs.declared.ending.FaultKind.TheVariants.{DivideByZero}
-use Rattle.css_num.specs.declared.operators.UnOp.{UnOp}
-use Rattle.css_num.specs.declared.operators.UnOp.TheVariants as unary
 use Rattle.css_num.specs.declared.operators.BinOp.{BinOp}
 use Rattle.css_num.specs.declared.operators.BinOp.TheVariants as binary
 use Rattle.css_num.specs.Types.{bits_of, has_sign, IsInRange}
 use Rattle.css_num.specs.Conversion.{modulo, representation, converted}
-use Rattle.css_num.specs.Operators.{truth_value, count_of, quotient, floor_quotient, bitwise, unary_value, binary_value}
-use Rattle.css_num.proofs.Congruence.{AreCongruent, congruent_refl, congruent_trans, congruent-mul, congruent-modulo, modulo_below, modulo-congruent}
+use Rattle.css_num.specs.Operators.{truth_value, count_of, quotient, floor_quotient, bitwise, binary_value}
+use Rattle.css_num.proofs.Congruence.{congruent_refl, congruent_trans, congruent-mul, congruent-modulo, modulo_below, modulo-congruent}
 use Rattle.css_num.proofs.Ranges.{converted-value, represented_in_range}
-use Rattle.css_num.proofs.Values.{binary_in_range}
 use Rattle.css_num.proofs.Wrapping.{congruent_narrow}
-use Rattle.css_semantics.specs.Dialogue.{World, Tape, Item, Reply, Says, Fails, Refuses, Outcome, Goes, Stops, then_do, Mode, Plain, Waiting, Measuring, WaitFault, DimFault, item_in, at_fault, fault_in}
+use Rattle.css_semantics.specs.Dialogue.{World, Tape, Item, Reply, Says, Fails, Refuses, Outcome, then_do, Mode, Plain, Waiting, Measuring, WaitFault, DimFault, item_in, at_fault, fault_in}
 use Rattle.css_core.specs.Expressions.{Calling, given}
 use Rattle.css_core.specs.Typed.{is_shift}
 use Rattle.css_isa.specs.Effects as effects
 use Rattle.css_isa.specs.declared.code.Op.TheVariants as ops
-use Rattle.css_isa.specs.Cells.{cell_of, signed, truth, product_of, shifted_left, shifted_right, unsigned_shifted_right, are_equal, differ}
-use Rattle.css_isa.specs.declared.code.ShiftWidth.TheVariants as shifts
+use Rattle.css_isa.specs.Cells.{cell_of, signed, truth, product_of, are_equal, differ}
 use Rattle.css_blocks.specs.Pieces.{Piece, Do, row}
 use Rattle.css_blocks.specs.Meaning.{Exits, on_fall, worked, Calls, means}
-use Rattle.css_gen_expr.specs.Operators.{narrowing, is_wide, is_narrow, takes_low, operation, operated, below, is_zero, unary_wraps, unary_operation}
+use Rattle.css_gen_expr.specs.Operators.{narrowing, is_wide, is_narrow, takes_low, operation, operated, below, is_zero}
 use Rattle.css_gen_expr.specs.Expressions.{done}
-use Rattle.css_gen_expr.proofs.Cells.{IsLike, IsLow, cell_below, like-cell, low-cell, like_fewer, like_is, like-sum, like-product, like-difference, like-negative, like-complement, converted-like, like-converted, wide_cell, cell_of-truth}
-use Rattle.css_gen_expr.proofs.CellsExact.{signed-cell, plain_number, zero_test, same_test, cell_of-equal, cell_of-differ, below_signed, below_unsigned, not_above, turned_round, quotient_signed, remainder_signed, quotient_unsigned, remainder_unsigned}
+use Rattle.css_gen_expr.proofs.Cells.{IsLike, IsLow, like-cell, low-cell, like_fewer, like_is, like-sum, like-product, like-difference, converted-like, like-converted, wide_cell, cell_of-truth}
+use Rattle.css_gen_expr.proofs.CellsExact.{signed-cell, plain_number, zero_test, cell_of-equal, cell_of-differ, below_signed, below_unsigned, not_above, turned_round, quotient_signed, remainder_signed, quotient_unsigned, remainder_unsigned}
 use Rattle.css_gen_expr.proofs.CellsBits.{IsBitwise, is_and, is_or, is_xor, like-bitwise, wide-bitwise, plain-bitwise, int-bitwise}
 
 -- ---- faults

@@ -1,15 +1,14 @@
 -- What is seen to be in a type's range is.
-use Rattle.std.proofs.Common.{◌≡◌, ℕ, ◌-◌, ◌^◌, ◌<◌, ◌≤◌, ℤ, pos, neg_ℤ, ◌≤ℤ◌, Bool, true, false, ◌&&◌, nat_le, nat_lt, int_le, if◌then◌else◌, List, Option, Some, None, refl, sym, ap, ◌∙◌, subst, arith, lit≤}
+use Rattle.std.proofs.Common.{◌≡◌, ℕ, ◌-◌, ◌^◌, ◌≤◌, ℤ, pos, neg_ℤ, ◌≤ℤ◌, Bool, true, false, ◌&&◌, nat_le, nat_lt, int_le, if◌then◌else◌, List, Some, refl, sym, ap, ◌∙◌, arith, lit≤}
 use Rattle.std.specs.Prelude.{slice_get}
 use Rattle.std.proofs.lemmas.Bool.{leb-true, ltb-true}
 use Rattle.std.proofs.lemmas.Float.{T_from_true}
-use Rattle.std.proofs.lemmas.Option.{same_Some}
 use Rattle.std.proofs.Math.Pow.{pow_mono}
 use borrow.Author.Differences.{neg_is, at_most_in, le_out}
 use Rattle.css_base.specs.declared.int_type.IntType.{IntType}
 use Rattle.css_base.specs.declared.int_type.IntType.TheVariants.{UChar, SChar, Short, UShort, Int, UInt, Long, ULong, LongLong, ULongLong}
 use Rattle.css_num.specs.Types.{bits_of, has_sign, least, greatest, IsInRange}
-use Rattle.css_semantics.specs.Dialogue.{World, Tape, Outcome, Goes, Stops, then_do, Mode}
+use Rattle.css_semantics.specs.Dialogue.{World, Tape, Outcome, Goes, Stops, Mode}
 use Rattle.css_core.specs.Core.{Expression, Number, Local, Given, Value, Assign, Update, Convert, Unary, Binary, And, Or, Choice, Sequence, Call, Input, Put, Print, Allocate}
 use Rattle.css_core.specs.Expressions.{is_true, Calling, argument_in, value_of}
 use Rattle.css_core.specs.Typed.{Signature, HasType}
@@ -29,15 +28,17 @@ wider : (a b : Bool) (p q : ℕ) → 1 ≤ q → (if a then b && nat_le p q else
     → least_by a p ≤ℤ v → v ≤ℤ greatest_by a p → (least_by b q ≤ℤ v) × (v ≤ℤ greatest_by b q)
 wider true true p q some e v h k =
     let less = leb-true p q e in
-    let powers = pow_mono {i = p - 1} {j = q - 1} (omega arith) in
-    (at_most_in (neg_ℤ (pos (2 ^ (q - 1)))) v (omega (arith, powers, le_out (neg_ℤ (pos (2 ^ (p - 1)))) v h, neg_is (pos (2 ^ (p - 1))), neg_is (pos (2 ^ (q - 1))))),
-    at_most_in v (pos (2 ^ (q - 1) - 1)) (omega (arith, powers, le_out v (pos (2 ^ (p - 1) - 1)) k)))
+    let powers = pow_mono {i = p - 1} {j = q - 1} (omega arith) in (
+      at_most_in (neg_ℤ (pos (2 ^ (q - 1)))) v (omega (arith, powers, le_out (neg_ℤ (pos (2 ^ (p - 1)))) v h, neg_is (pos (2 ^ (p - 1))), neg_is (pos (2 ^ (q - 1))))),
+      at_most_in v (pos (2 ^ (q - 1) - 1)) (omega (arith, powers, le_out v (pos (2 ^ (p - 1) - 1)) k)),
+    )
 wider true false p q some e v h k = cc
 wider false true p q some e v h k =
     let less = ltb-true p q e in
-    let powers = pow_mono {i = p} {j = q - 1} (omega arith) in
-    (at_most_in (neg_ℤ (pos (2 ^ (q - 1)))) v (omega (arith, le_out (pos 0) v h, neg_is (pos (2 ^ (q - 1))))),
-    at_most_in v (pos (2 ^ (q - 1) - 1)) (omega (arith, powers, le_out v (pos (2 ^ p - 1)) k)))
+    let powers = pow_mono {i = p} {j = q - 1} (omega arith) in (
+      at_most_in (neg_ℤ (pos (2 ^ (q - 1)))) v (omega (arith, le_out (pos 0) v h, neg_is (pos (2 ^ (q - 1))))),
+      at_most_in v (pos (2 ^ (q - 1) - 1)) (omega (arith, powers, le_out v (pos (2 ^ p - 1)) k)),
+    )
 wider false false p q some e v h k =
     let less = leb-true p q e in
     let powers = pow_mono {i = p} {j = q} less in

@@ -1,5 +1,5 @@
 -- Expressions without a choice mean their pieces: numbers, places, loads, assignments, conversions, input and output of a byte.
-use Rattle.std.proofs.Common.{◌≡◌, ℕ, zero, suc, ◌+◌, ◌-◌, ◌<◌, ◌≤◌, ◌^◌, ◌%◌, ℤ, pos, Bool, true, false, not, ◌&&◌, ◌||◌, nat_le, nat_lt, if◌then◌else◌, List, [], ◌∷◌, ◌++◌, Option, Some, None, IsTrue, refl, sym, ap, ◌∙◌, subst, arith, lit≤, lit<}
+use Rattle.std.proofs.Common.{◌≡◌, ℕ, suc, ◌+◌, ◌-◌, ◌≤◌, ◌^◌, ◌%◌, ℤ, pos, Bool, true, false, ◌||◌, nat_lt, if◌then◌else◌, List, [], ◌∷◌, ◌++◌, Some, refl, sym, ap, ◌∙◌, subst, arith, lit≤, lit<}
 use Rattle.std.specs.Prelude.{slice_get}
 use Rattle.std.proofs.lemmas.List.{append_assoc}
 use Rattle.std.proofs.lemmas.Nat.{mod_below, pow_pos}
@@ -8,18 +8,18 @@ use Rattle.css_base.specs.declared.int_type.IntType.{IntType}
 use Rattle.css_base.specs.declared.int_type.IntType.TheVariants.{UChar, SChar, Short, UShort, Int, UInt, Long, ULong, LongLong, ULongLong}
 use Rattle.css_num.specs.Types.{bits_of, IsInRange}
 use Rattle.css_num.specs.Conversion.{modulo, converted}
-use Rattle.css_num.proofs.Congruence.{modulo_below, modulo-congruent, congruent_refl, congruent_sym, congruent_trans, congruent-modulo}
+use Rattle.css_num.proofs.Congruence.{modulo_below, modulo-congruent, congruent_sym, congruent_trans, congruent-modulo}
 use Rattle.css_num.proofs.Wrapping.{congruent_narrow}
 use Rattle.css_num.proofs.Ranges.{converted-value}
-use Rattle.css_semantics.specs.Dialogue.{Load, Store, Out, In, Malloc, World, Tape, Outcome, Goes, Stops, then_do, Mode, ask_in}
+use Rattle.css_semantics.specs.Dialogue.{Store, Out, In, Malloc, World, Tape, Outcome, Goes, Stops, then_do, Mode, ask_in}
 use Rattle.css_core.specs.Core.{Expression, Number, Local, Given, Value, Assign, Convert, Sequence, Input, Put, Allocate}
 use Rattle.css_core.specs.Quiet.{is_quiet}
 use Rattle.css_core.specs.Expressions as core
 use Rattle.css_core.specs.Expressions.{Calling, argument_in, load, store, value_of}
 use Rattle.css_core.specs.Typed.{Signature, HasType}
 use Rattle.css_core.proofs.Leaving.{Comes}
-use Rattle.css_core.proofs.InRange.{CallsFit, fits_value}
-use Rattle.css_isa.specs.Cells.{cell_of, sum_of, cell_as, address_of}
+use Rattle.css_core.proofs.InRange.{CallsFit}
+use Rattle.css_isa.specs.Cells.{cell_of, sum_of, cell_as}
 use Rattle.css_isa.specs.Effects as effects
 use Rattle.css_isa.specs.Effects.{on_cell}
 use Rattle.css_isa.specs.declared.code.Op.TheVariants as ops
@@ -31,10 +31,10 @@ use Rattle.css_blocks.proofs.Equations.{then_assoc, then_same}
 use Rattle.css_gen_expr.specs.declared.aim.Aim.{Aim}
 use Rattle.css_gen_expr.specs.declared.aim.Aim.TheVariants.{Used, Tested, Low, Unused}
 use Rattle.css_gen_expr.specs.Ranges.{is_within}
-use Rattle.css_gen_expr.specs.Operators.{low_if, ending, load_of, store_of, is_narrow, is_wide, narrowing, exact, keeps, assignment_takes, conversion_takes, conversion_code}
-use Rattle.css_gen_expr.specs.Expressions.{done, pieces_of, put_code}
-use Rattle.css_gen_expr.proofs.Cells.{IsLike, IsLow, cell_below, like-cell, low-cell, low_address, like-converted, like_other, long_cell, wide_cell}
-use Rattle.css_gen_expr.proofs.Operators.{TakesLow, LowIf, run, narrows}
+use Rattle.css_gen_expr.specs.Operators.{low_if, ending, load_of, store_of, is_narrow, is_wide, narrowing, exact, keeps}
+use Rattle.css_gen_expr.specs.Expressions.{done, put_code}
+use Rattle.css_gen_expr.proofs.Cells.{IsLow, low-cell, low_address, like-converted, long_cell, wide_cell}
+use Rattle.css_gen_expr.proofs.Operators.{TakesLow, run, narrows}
 use Rattle.css_gen_expr.proofs.Ranges.{within_range}
 use Rattle.css_gen_expr.proofs.Memory
 

@@ -1,18 +1,17 @@
 -- What is tested of an expression: its value, or one that is 0 where the value isn't.
-use Rattle.std.proofs.Common.{◌≡◌, ℕ, ℤ, pos, Bool, true, false, not, nat_eq, int_eq, int_lt, int_le, if◌then◌else◌, List, Option, Some, None, refl, sym, ap, ◌∙◌, subst}
+use Rattle.std.proofs.Common.{◌≡◌, ℕ, ℤ, pos, Bool, true, false, not, int_eq, int_lt, int_le, if◌then◌else◌, List, Some, refl, sym, ap, ◌∙◌}
 use Rattle.std.specs.Prelude.{slice_get}
 use Rattle.css_base.specs.declared.int_type.IntType.{IntType}
-use Rattle.css_base.specs.declared.int_type.IntType.TheVariants.{Int}
 use Rattle.css_num.specs.declared.operators.UnOp.TheVariants as unary
 use Rattle.css_num.specs.declared.operators.BinOp.{BinOp}
 use Rattle.css_num.specs.declared.operators.BinOp.TheVariants as binary
 use Rattle.css_num.specs.Types.{IsInRange}
 use Rattle.css_num.specs.Operators.{truth_value, binary_value}
-use Rattle.css_semantics.specs.Dialogue.{World, Tape, Outcome, Goes, Stops, then_do, Mode}
-use Rattle.css_core.specs.Core.{Expression, Number, Local, Given, Value, Assign, Update, Convert, Unary, Binary, And, Or, Choice, Sequence, Call, Input, Put, Print, Allocate}
+use Rattle.css_semantics.specs.Dialogue.{World, Tape, Outcome, Goes, then_do, Mode}
+use Rattle.css_core.specs.Core.{Expression, Unary, Binary, And, Or}
 use Rattle.css_core.specs.Expressions.{is_true, Calling, argument_in, given, value_of}
 use Rattle.css_core.specs.Typed.{Signature, HasType}
-use Rattle.css_core.proofs.Leaving.{Comes, gives_after, gives_then}
+use Rattle.css_core.proofs.Leaving.{Comes, gives_after}
 use Rattle.css_core.proofs.InRange.{CallsFit, fits_value}
 use Rattle.css_blocks.proofs.Equations.{then_assoc, then_same}
 use Rattle.css_gen_expr.specs.declared.aim.Aim.{Aim}

@@ -1,7 +1,6 @@
 -- Updates mean their pieces.
-use Rattle.std.proofs.Common.{◌≡◌, ℕ, suc, ◌+◌, ◌^◌, ◌≤◌, ℤ, pos, Bool, true, false, not, ◌&&◌, ◌||◌, if◌then◌else◌, List, [], ◌∷◌, ◌++◌, Option, Some, None, IfSome, refl, sym, ap, ◌∙◌, subst, lit≤}
+use Rattle.std.proofs.Common.{◌≡◌, ℕ, suc, ◌≤◌, ℤ, Bool, true, false, ◌&&◌, ◌||◌, if◌then◌else◌, List, [], ◌∷◌, ◌++◌, Option, Some, None, IfSome, refl, sym, ap, ◌∙◌, subst, lit≤}
 use Rattle.std.specs.Prelude.{slice_get}
-use Rattle.std.proofs.lemmas.List.{append_assoc}
 use Rattle.std.proofs.lemmas.Bool.{leb-true}
 use Rattle.css_base.specs.declared.int_type.IntType.{IntType}
 use Rattle.css_base.specs.declared.int_type.IntType.TheVariants.{UChar, SChar, Short, UShort, Int, UInt, Long, ULong, LongLong, ULongLong}
@@ -12,28 +11,27 @@ use Rattle.css_num.specs.Conversion.{converted}
 use Rattle.css_num.specs.Operators.{binary_type, binary_value}
 use Rattle.css_num.proofs.Ranges.{converted-value, converted_in_range}
 use Rattle.css_num.proofs.Values.{binary_in_range}
-use Rattle.css_semantics.specs.Dialogue.{Store, World, Tape, Outcome, Goes, Stops, then_do, Mode, ask_in}
+use Rattle.css_semantics.specs.Dialogue.{Store, World, Tape, Outcome, Goes, then_do, Mode, ask_in}
 use Rattle.css_core.specs.Core.{Expression, Update, Gives, Old, New}
 use Rattle.css_core.specs.Quiet.{is_quiet}
 use Rattle.css_core.specs.Expressions as core
 use Rattle.css_core.specs.Expressions.{Calling, argument_in, given, given_by, load, store, update, value_of}
 use Rattle.css_core.specs.Typed.{Signature, HasType, is_shift, IsSameUnless}
-use Rattle.css_core.proofs.Leaving.{Comes}
 use Rattle.css_core.proofs.InRange.{CallsFit, fits_value}
 use Rattle.css_isa.specs.Cells.{cell_of}
 use Rattle.css_isa.specs.declared.code.Op.{Op}
 use Rattle.css_isa.specs.declared.code.Op.TheVariants as ops
-use Rattle.css_blocks.specs.Pieces.{Piece, Do, row}
-use Rattle.css_blocks.specs.Meaning.{Exits, Calls, means}
+use Rattle.css_blocks.specs.Pieces.{Piece, Do}
+use Rattle.css_blocks.specs.Meaning.{Exits, Calls}
 use Rattle.css_blocks.proofs.Equations.{then_assoc, then_same}
 use Rattle.css_gen_expr.specs.declared.aim.Aim.{Aim}
 use Rattle.css_gen_expr.specs.declared.aim.Aim.TheVariants.{Used, Tested, Low, Unused}
 use Rattle.css_gen_expr.specs.Ranges.{contains}
-use Rattle.css_gen_expr.specs.Operators.{low_if, ending, narrowing, is_wide, is_narrow, takes_low, load_of, store_of, is_stored_low, update_takes, old_code, new_code, operated}
-use Rattle.css_gen_expr.specs.Expressions.{done, kept, keeps_old, lifted, update_ending, pieces_of}
-use Rattle.css_gen_expr.proofs.Cells.{IsLike, IsLow, like-cell, low-cell, like-converted, converted_bytes}
+use Rattle.css_gen_expr.specs.Operators.{low_if, narrowing, is_wide, is_narrow, takes_low, load_of, store_of, is_stored_low, update_takes, old_code, new_code, operated}
+use Rattle.css_gen_expr.specs.Expressions.{done}
+use Rattle.css_gen_expr.proofs.Cells.{IsLow, like-cell, low-cell, like-converted, converted_bytes}
 use Rattle.css_gen_expr.proofs.Ranges.{contained}
-use Rattle.css_gen_expr.proofs.Operators.{TakesLow, LowIf, Taken, run, faults_alike, narrows, binary_means}
+use Rattle.css_gen_expr.proofs.Operators.{LowIf, Taken, run, faults_alike, narrows, binary_means}
 use Rattle.css_gen_expr.proofs.Arithmetic.{done_both, right_range}
 use Rattle.css_gen_expr.proofs.Memory
 

@@ -1,10 +1,10 @@
 -- Each expression means its pieces.
-use Rattle.std.proofs.Common.{◌≡◌, ℕ, ℤ, false, List, Option, Some, refl}
+use Rattle.std.proofs.Common.{◌≡◌, ℕ, false, List, Some, refl}
 use Rattle.std.specs.Prelude.{slice_get}
 use Rattle.css_base.specs.declared.int_type.IntType.{IntType}
 use Rattle.css_num.specs.declared.operators.UnOp.TheVariants as unary
 use Rattle.css_num.specs.Types.{IsInRange}
-use Rattle.css_semantics.specs.Dialogue.{World, Tape, Outcome, Mode}
+use Rattle.css_semantics.specs.Dialogue.{World, Mode}
 use Rattle.css_core.specs.Core.{Expression, Number, Local, Given, Value, Assign, Update, Convert, Unary, Binary, And, Or, Choice, Sequence, Call, Input, Put, Print, Allocate, Expressions, Empty, More}
 use Rattle.css_core.specs.Expressions.{Calling, argument_in}
 use Rattle.css_core.specs.Typed.{Signature}

@@ -1,10 +1,10 @@
 -- The code of calls, and what calls of the core and of pieces have in common.
-use Rattle.std.specs.Prelude.{◌≡◌, ℕ, ◌+◌, ◌/◌, ℤ, Bool, true, not, ◌||◌, List, [], ◌∷◌, ◌++◌, map, length, Option, Some, None, is_none, slice_get}
+use Rattle.std.specs.Prelude.{◌≡◌, ℕ, ◌+◌, ◌/◌, ℤ, true, not, ◌||◌, List, [], ◌∷◌, ◌++◌, map, length, Option, Some, None, is_none, slice_get}
 use Rattle.css_base.specs.declared.int_type.IntType.{IntType}
 use Rattle.css_num.specs.Types.{bits_of}
 use Rattle.css_semantics.specs.Dialogue.{Argument, World, Tape, Outcome, Goes, then_do}
 use Rattle.css_semantics.specs.Tasks.{makes_tasks}
-use Rattle.css_core.specs.Core.{Expression, Expressions, Empty, More, Part, Scalar, Window, Task, Function}
+use Rattle.css_core.specs.Core.{Expression, Part, Scalar, Window, Task, Function}
 use Rattle.css_core.specs.Typed.{Signature, signature, count_of}
 use Rattle.css_core.specs.Expressions.{Calling}
 use Rattle.css_core.specs.Functions.{pointers}

@@ -1,12 +1,8 @@
 -- The code of an expression: a list of pieces.
-use Rattle.std.specs.Prelude.{ℕ, zero, suc, ◌+◌, ◌-◌, ℤ, pos, Bool, true, false, not, List, [], ◌∷◌, ◌++◌, map, if◌then◌else◌}
-use Rattle.css_base.specs.declared.int_type.IntType.{IntType}
+use Rattle.std.specs.Prelude.{ℕ, zero, suc, ◌-◌, pos, Bool, true, false, not, List, [], ◌∷◌, ◌++◌}
 use Rattle.css_base.specs.declared.int_type.IntType.TheVariants.{Int, UInt, LongLong}
-use Rattle.css_num.specs.declared.operators.UnOp.{UnOp}
 use Rattle.css_num.specs.declared.operators.UnOp.TheVariants as unary
-use Rattle.css_num.specs.declared.operators.BinOp.{BinOp}
 use Rattle.css_num.specs.Conversion.{converted}
-use Rattle.css_num.specs.Operators.{is_division}
 use Rattle.css_core.specs.Core as core
 use Rattle.css_core.specs.Core.{Expression, Number, Local, Given, Value, Assign, Update, Convert, Unary, Binary, And, Or, Choice, Sequence, Call, Input, Put, Print, Allocate, Expressions, Empty, More, Gives, Old, New, Conversion, Character, Signed, Unsigned, Hexadecimal, Wide, Literal, Shown}
 use Rattle.css_core.specs.Typed.{Signature, count_of}
@@ -20,7 +16,7 @@ use Rattle.css_blocks.specs.Pieces.{Piece, Skip, Do, When, row}
 use Rattle.css_gen_expr.specs.declared.aim.Aim.{Aim}
 use Rattle.css_gen_expr.specs.declared.aim.Aim.TheVariants.{Used, Tested, Low, Unused}
 use Rattle.css_gen_expr.specs.Ranges.{is_within}
-use Rattle.css_gen_expr.specs.Operators.{plainly, low_if, ending, only_for, exact, narrowing, load_of, store_of, conversion_takes, conversion_code, is_zero, isnt_zero, unary_takes, unary_code, is_comparison, turned_op, binary_takes, binary_code, assignment_takes, is_stored_low, update_takes, old_code, new_code}
+use Rattle.css_gen_expr.specs.Operators.{plainly, ending, only_for, exact, narrowing, load_of, store_of, conversion_takes, conversion_code, is_zero, isnt_zero, unary_takes, unary_code, is_comparison, turned_op, binary_takes, binary_code, assignment_takes, is_stored_low, update_takes, old_code, new_code}
 
 -- instructions of one line, one after another
 abbrev pub done : (line : ℕ) → List Op → List Piece

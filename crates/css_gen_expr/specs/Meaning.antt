@@ -1,6 +1,6 @@
 -- What an expression's code owes: that it means what the expression means, whatever comes behind it.
-use Rattle.std.specs.Prelude.{◌≡◌, ℕ, ℤ, List, [], ◌∷◌, ◌++◌, if◌then◌else◌, IsTrue, map, slice_get, Option, Some}
-use Rattle.css_semantics.specs.Dialogue.{World, Tape, Outcome, Goes, then_do, Mode, Plain, Waiting, Measuring}
+use Rattle.std.specs.Prelude.{◌≡◌, ℕ, ℤ, List, [], ◌∷◌, ◌++◌, if◌then◌else◌, IsTrue, map, slice_get, Some}
+use Rattle.css_semantics.specs.Dialogue.{World, Tape, Outcome, Goes, then_do, Mode, Plain, Waiting}
 use Rattle.css_core.specs.Core.{Expression, Function}
 use Rattle.css_core.specs.Typed.{Signature, signature, HasType, IsTyped}
 use Rattle.css_core.specs.Quiet.{is_quiet}

@@ -1,5 +1,5 @@
 -- Where a conversion changes nothing, as far as the form of its operand shows.
-use Rattle.std.specs.Prelude.{Bool, true, false, ◌&&◌, nat_le, nat_lt, int_le, if◌then◌else◌, List, Option, Some, None, slice_get}
+use Rattle.std.specs.Prelude.{Bool, false, ◌&&◌, nat_le, nat_lt, int_le, if◌then◌else◌, List, Option, Some, None, slice_get}
 use Rattle.css_base.specs.declared.int_type.IntType.{IntType}
 use Rattle.css_base.specs.declared.int_type.IntType.TheVariants.{Int, UInt}
 use Rattle.css_num.specs.Types.{bits_of, has_sign, least, greatest}
