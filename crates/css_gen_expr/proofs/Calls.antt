@@ -58,7 +58,7 @@ true_second : (a b : Bool) → IsTrue (a && b) → IsTrue b
 true_second true b h = h
 true_second false b h = cc
 
-computed_is_quiet : (e : Expression) → IsTrue (is_computed e) → IsTrue (is_quiet e)
+pub computed_is_quiet : (e : Expression) → IsTrue (is_computed e) → IsTrue (is_quiet e)
 computed_is_quiet (Number value) h = refl
 computed_is_quiet (Given k) h = refl
 computed_is_quiet (Convert t e) h = computed_is_quiet e h

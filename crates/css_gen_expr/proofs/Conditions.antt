@@ -41,7 +41,7 @@ nothing_fits : (signatures : List Signature) → CallsFit signatures calls_nothi
 nothing_fits signatures f s values base line t found = zero_in_range s.result
 
 -- a task's parts are those of its parameters
-parts_typed : (fs : List Function) → All (IsTypedFunction (map signature fs)) fs → (k : ℕ) (f : Function) (task : Task) → slice_get fs k ≡ Some f → f.task ≡ Some task → ArePartsOf (map signature fs) f.parameters f.parameters task.parts
+pub parts_typed : (fs : List Function) → All (IsTypedFunction (map signature fs)) fs → (k : ℕ) (f : Function) (task : Task) → slice_get fs k ≡ Some f → f.task ≡ Some task → ArePartsOf (map signature fs) f.parameters f.parameters task.parts
 parts_typed fs typed k f task found is =
     let f_typed = subst (λ o. IfSome o (IsTypedFunction (map signature fs))) found (typed_at (map signature fs) fs typed k) in
     (subst (IsTaskOf (map signature fs) f) is f_typed.task).1

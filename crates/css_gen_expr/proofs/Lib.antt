@@ -14,3 +14,7 @@ pub mod Whole
 pub mod Modeless
 pub mod Calls
 pub mod Conditions
+pub mod Heights
+pub mod Finding
+pub mod Standing
+pub mod Inner

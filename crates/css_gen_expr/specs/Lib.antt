@@ -4,3 +4,5 @@ pub mod Expressions
 pub mod Tests
 pub mod Calls
 pub mod Meaning
+pub mod Standing
+pub mod Inner

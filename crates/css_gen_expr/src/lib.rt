@@ -2,7 +2,11 @@
 #![tactic(auto)]
 
 mod aim;
+mod instructions;
 mod laws;
 
 pub use aim::Aim;
-pub use laws::{cells_have_the_bytes_of_values, expressions_mean_their_pieces};
+pub use laws::{
+    cells_have_the_bytes_of_values, expressions_find_their_cells, expressions_mean_their_pieces,
+    inner_expressions_make_no_events,
+};
