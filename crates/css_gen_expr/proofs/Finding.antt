@@ -1,5 +1,5 @@
 -- The code of expressions finds its cells, and leaves one more or as many as there were.
-use Rattle.std.proofs.Common.{◌≡◌, ℕ, zero, suc, ◌+◌, ◌-◌, ◌<◌, ◌≤◌, ℤ, pos, Bool, true, false, not, ◌&&◌, ◌||◌, if◌then◌else◌, List, [], ◌∷◌, ◌++◌, length, Option, Some, None, IsTrue, refl, sym, ap, ◌∙◌, subst, arith}
+use Rattle.std.proofs.Common.{◌≡◌, ℕ, zero, suc, ◌+◌, ◌-◌, ◌<◌, ◌≤◌, pos, Bool, true, false, not, ◌&&◌, ◌||◌, if◌then◌else◌, List, [], ◌∷◌, ◌++◌, length, Some, None, refl, sym, ap, ◌∙◌, subst, arith}
 use Rattle.std.specs.Prelude.{slice_get}
 use Rattle.css_base.specs.declared.int_type.IntType.{IntType}
 use Rattle.css_base.specs.declared.int_type.IntType.TheVariants.{UChar, SChar, Short, UShort, Int, UInt, Long, ULong, LongLong, ULongLong}
@@ -17,13 +17,12 @@ use Rattle.css_isa.specs.Code.{Code}
 use Rattle.css_isa.specs.declared.code.Op.{Op}
 use Rattle.css_isa.specs.declared.code.Op.TheVariants as ops
 use Rattle.css_isa.specs.declared.code.Narrow.TheVariants as narrow
-use Rattle.css_blocks.specs.Pieces as pieces
-use Rattle.css_blocks.specs.Pieces.{Piece, Skip, Do, When, Ways, row}
-use Rattle.css_blocks.specs.Finds.{Level, level, below, behind, Finds}
+use Rattle.css_blocks.specs.Pieces.{Piece, Do, Ways, row}
+use Rattle.css_blocks.specs.Finds.{Level, level, behind, Finds}
 use Rattle.css_gen_expr.specs.declared.aim.Aim.{Aim}
 use Rattle.css_gen_expr.specs.declared.aim.Aim.TheVariants.{Used, Tested, Low, Unused}
 use Rattle.css_gen_expr.specs.Ranges.{contains, is_within}
-use Rattle.css_gen_expr.specs.Operators.{plainly, low_if, ending, only_for, exact, narrowing, keeps, is_wide, is_narrow, takes_low, load_of, store_of, conversion_takes, conversion_code, unary_wraps, unary_takes, unary_code, operated, straight, binary_takes, binary_code, assignment_takes, is_stored_low, update_takes, old_code, new_code}
+use Rattle.css_gen_expr.specs.Operators.{plainly, low_if, ending, only_for, exact, narrowing, keeps, is_wide, is_narrow, takes_low, load_of, store_of, conversion_takes, conversion_code, unary_wraps, unary_takes, unary_code, operated, straight, assignment_takes, is_stored_low, update_takes, old_code, new_code}
 use Rattle.css_gen_expr.specs.Expressions.{done, raised, sides, side, is_turned, is_truth, truth_code, kept, keeps_old, lifted, update_ending, conversion_of, put_code, print_code, written, drops, summed, sunk, pieces_of, all_pieces}
 use Rattle.css_gen_expr.proofs.Heights.{Leads, suffices, onward, walk, walked, then_walk, if_walk, both_lead, narrowing_walk, operated_walk}
 use Rattle.css_gen_expr.proofs.Memory.{For, for_first, for_second, for_none}

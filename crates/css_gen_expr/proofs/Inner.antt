@@ -1,9 +1,8 @@
 -- The code of what a task may reach makes no events.
-use Rattle.std.proofs.Common.{◌≡◌, ℕ, zero, suc, ◌-◌, ℤ, pos, Bool, true, false, not, ◌&&◌, ◌||◌, if◌then◌else◌, List, [], ◌∷◌, ◌++◌, map, Option, Some, None, is_none, IsTrue, refl, sym, ap, ◌∙◌, subst}
+use Rattle.std.proofs.Common.{◌≡◌, ℕ, suc, ◌-◌, pos, Bool, true, false, not, ◌&&◌, ◌||◌, if◌then◌else◌, List, [], ◌∷◌, ◌++◌, map, Option, Some, None, is_none, IsTrue, refl, ◌∙◌}
 use Rattle.std.specs.Prelude.{slice_get}
 use Rattle.css_base.specs.declared.int_type.IntType.{IntType}
 use Rattle.css_base.specs.declared.int_type.IntType.TheVariants.{UChar, SChar, Short, UShort, Int, UInt, Long, ULong, LongLong, ULongLong}
-use Rattle.css_num.specs.declared.operators.UnOp.{UnOp}
 use Rattle.css_num.specs.declared.operators.UnOp.TheVariants as unary
 use Rattle.css_num.specs.declared.operators.BinOp.{BinOp}
 use Rattle.css_num.specs.declared.operators.BinOp.TheVariants as binary
@@ -20,12 +19,11 @@ use Rattle.css_isa.specs.Soundness.{MakesNoEvent}
 use Rattle.css_isa.specs.declared.code.Op.{Op}
 use Rattle.css_isa.specs.declared.code.Op.TheVariants as ops
 use Rattle.css_blocks.specs.declared.part.Way.{Way}
-use Rattle.css_blocks.specs.Pieces as pieces
-use Rattle.css_blocks.specs.Pieces.{Piece, Skip, Do, When, Exit, Invoke, is_plain, row}
+use Rattle.css_blocks.specs.Pieces.{Piece, Do, Exit, is_plain, row}
 use Rattle.css_gen_expr.specs.declared.aim.Aim.{Aim}
 use Rattle.css_gen_expr.specs.declared.aim.Aim.TheVariants.{Used, Tested, Low, Unused}
 use Rattle.css_gen_expr.specs.Ranges.{contains, is_within}
-use Rattle.css_gen_expr.specs.Operators.{plainly, low_if, ending, only_for, exact, narrowing, keeps, is_wide, takes_low, wraps, counting, shift_width, load_of, store_of, conversion_takes, conversion_code, unary_wraps, unary_takes, unary_code, operation, operated, straight, binary_takes, binary_code, assignment_takes, is_stored_low, update_takes, old_code, new_code}
+use Rattle.css_gen_expr.specs.Operators.{plainly, ending, only_for, exact, narrowing, keeps, is_wide, takes_low, wraps, counting, shift_width, load_of, store_of, conversion_takes, conversion_code, unary_takes, unary_code, operation, operated, straight, binary_takes, binary_code, assignment_takes, is_stored_low, update_takes, old_code, new_code}
 use Rattle.css_gen_expr.specs.Expressions.{done, raised, sides, side, is_turned, is_truth, truth_code, kept, keeps_old, lifted, update_ending, pieces_of, all_pieces}
 use Rattle.css_gen_expr.specs.Tests as tests
 use Rattle.css_gen_expr.specs.Calls as code

@@ -1,11 +1,11 @@
 -- All that is owed of expressions on the cells that they find, for calls of tasks too.
-use Rattle.std.proofs.Common.{◌≡◌, ℕ, zero, suc, ◌+◌, ◌-◌, ◌<◌, ◌≤◌, ℤ, Bool, true, false, not, ◌&&◌, if◌then◌else◌, List, [], ◌∷◌, ◌++◌, map, length, Option, Some, None, option_map, IsTrue, refl, sym, ap, ◌∙◌, subst, arith}
+use Rattle.std.proofs.Common.{◌≡◌, ℕ, suc, ◌+◌, ◌-◌, ◌≤◌, Bool, true, false, if◌then◌else◌, List, [], ◌∷◌, ◌++◌, map, length, Option, Some, None, option_map, IsTrue, refl, sym, ap, ◌∙◌, subst, arith}
 use Rattle.std.specs.Prelude.{slice_get, All}
 use Rattle.std.proofs.lemmas.Option.{same_Some, slice_get-map}
 use Rattle.css_base.specs.declared.int_type.IntType.{IntType}
 use Rattle.css_base.specs.declared.int_type.IntType.TheVariants.{UInt}
 use Rattle.css_semantics.specs.Dialogue.{Mode, Plain, Waiting, Measuring}
-use Rattle.css_core.specs.Core.{Expression, Number, Local, Given, Value, Assign, Update, Convert, Unary, Binary, And, Or, Choice, Sequence, Call, Input, Put, Print, Allocate, Expressions, Empty, More, Part, Scalar, Window, Task, Function}
+use Rattle.css_core.specs.Core.{Expression, Number, And, Expressions, Empty, More, Part, Scalar, Window, Task, Function}
 use Rattle.css_core.specs.Expressions.{is_true}
 use Rattle.css_core.specs.Quiet.{is_quiet}
 use Rattle.css_core.specs.Typed.{Signature, signature, HasType, IsTyped, count_of, AreDimensions, ArePartsOf, IsTypedFunction}
@@ -13,9 +13,8 @@ use Rattle.css_isa.specs.Code.{Code, Routine, all_dimensions}
 use Rattle.css_isa.specs.declared.code.Op.TheVariants as ops
 use Rattle.css_isa.specs.declared.code.Mark.TheVariants as marks
 use Rattle.css_blocks.specs.declared.part.Way.{Way}
-use Rattle.css_blocks.specs.Pieces as pieces
-use Rattle.css_blocks.specs.Pieces.{Piece, Skip, Do, When, Exit, Unless, Invoke, Submit, Ways, at_way, row}
-use Rattle.css_blocks.specs.Finds.{Level, level, below, behind, Finds}
+use Rattle.css_blocks.specs.Pieces.{Piece, Do, Exit, Invoke, Submit, Ways, at_way, row}
+use Rattle.css_blocks.specs.Finds.{Level, level, behind, Finds}
 use Rattle.css_gen_expr.specs.declared.aim.Aim.TheVariants.{Used, Tested, Unused}
 use Rattle.css_gen_expr.specs.Expressions.{is_turned, sides, side, pieces_of, all_pieces}
 use Rattle.css_gen_expr.specs.Tests as tests

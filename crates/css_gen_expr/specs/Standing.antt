@@ -1,5 +1,5 @@
 -- That the code of expressions finds its cells, and how many it leaves.
-use Rattle.std.specs.Prelude.{◌≡◌, ℕ, suc, List, [], length, map, Option, Some, option_map, slice_get, IsTrue}
+use Rattle.std.specs.Prelude.{◌≡◌, ℕ, suc, List, [], length, map, Some, option_map, slice_get, IsTrue}
 use Rattle.css_base.specs.declared.int_type.IntType.TheVariants.{UInt}
 use Rattle.css_semantics.specs.Dialogue.{Plain, Waiting}
 use Rattle.css_core.specs.Core.{Expression, Function}

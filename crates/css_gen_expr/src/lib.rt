@@ -2,7 +2,6 @@
 #![tactic(auto)]
 
 mod aim;
-mod instructions;
 mod laws;
 
 pub use aim::Aim;
