@@ -18,3 +18,4 @@ pub mod Heights
 pub mod Finding
 pub mod Standing
 pub mod Inner
+pub mod Rows
