@@ -6,3 +6,4 @@ pub mod Calls
 pub mod Meaning
 pub mod Standing
 pub mod Inner
+pub mod Worked

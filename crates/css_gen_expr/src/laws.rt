@@ -14,6 +14,7 @@ ghost use Rattle.css_gen_expr.specs.Meaning.{GivesInRange, MeanTheirPieces};
 ghost use Rattle.css_isa.specs.Code.{Code};
 ghost use Rattle.css_gen_expr.specs.Standing.{HasFunctions, FindTheirCells};
 ghost use Rattle.css_gen_expr.specs.Inner.{AreInner, CallsNoTasks};
+ghost use Rattle.css_gen_expr.specs.Worked.{sets, sets_code, steps, steps_code, element, element_code, sum, sum_code, condition, condition_code};
 
 /// In every world, where calls of pieces agree with those of the core language, the code of an expression means the expression, whatever
 /// stands below it on the stack and whatever comes behind: it gives the value's cell, drops the value, decides between pieces, or leads
@@ -38,4 +39,13 @@ pub fn expressions_find_their_cells()
 /// events and calls only these.
 pub fn inner_expressions_make_no_events()
     ensures { (target : Code) (may_call : ℕ → Bool) (fs : List Function) → CallsNoTasks fs may_call → AreInner target may_call fs }
+{}
+
+/// Worked code: `i = n + 1;`, `i++;`, `p[i]`, `i + n`, and `i < n && !(i >= 9)` in front of a loop.
+pub fn expressions_have_this_code()
+    ensures sets { sets ≡ sets_code }
+    ensures steps { steps ≡ steps_code }
+    ensures element { element ≡ element_code }
+    ensures sum { sum ≡ sum_code }
+    ensures condition { condition ≡ condition_code }
 {}

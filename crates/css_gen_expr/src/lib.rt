@@ -12,6 +12,6 @@ mod within;
 pub use aim::Aim;
 pub use calling::{Calling, NoCalls};
 pub use laws::{
-    cells_have_the_bytes_of_values, expressions_find_their_cells, expressions_mean_their_pieces,
-    inner_expressions_make_no_events,
+    cells_have_the_bytes_of_values, expressions_find_their_cells, expressions_have_this_code,
+    expressions_mean_their_pieces, inner_expressions_make_no_events,
 };
