@@ -475,8 +475,23 @@ fn update_ends(out: &mut Vec<Part>, line: Line, keeps: bool, aim: Aim) -> Result
     }
 }
 
+// The store of an update.
+fn stores(
+    out: &mut Vec<Part>,
+    line: Line,
+    keeps: bool,
+    aim: Aim,
+    t: IntType,
+) -> Result<(), NoMemory>
+    requires { All IsSized out.old.items }
+    ensures sized { OnOk result (All IsSized out.new.items) }
+    ensures adds { OnOk result (map shape out.new.items ≡ map shape out.old.items ++ done line (spec.store_of t ∷ code.update_ending keeps aim)) }
+{
+    put(out, line, store_of(t))?;
+    update_ends(out, line, keeps, aim)
+}
+
 /// An update behind its right side.
-#[tactic(auto, using(crate::proofs::Rows::done_append))]
 pub(crate) fn update_stores(
     out: &mut Vec<Part>,
     line: Line,
@@ -492,8 +507,7 @@ pub(crate) fn update_stores(
     ensures adds { OnOk result (map shape out.new.items ≡ map shape out.old.items ++ done line (spec.new_code is_low op t within ++ spec.store_of t ∷ code.update_ending keeps aim)) }
 {
     renewed(out, line, is_low, op, t, within)?;
-    put(out, line, store_of(t))?;
-    update_ends(out, line, keeps, aim)
+    stores(out, line, keeps, aim, t)
 }
 
 /// The byte that is written.
