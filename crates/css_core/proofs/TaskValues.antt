@@ -14,7 +14,7 @@ use Rattle.css_core.proofs.InRange.{typed_at, spent_gives}
 abbrev IsZero : ℤ → Type 0
 IsZero v = v ≡ pos 0
 
-abbrev EndsWithZero : Exit → Type 0
+abbrev pub EndsWithZero : Exit → Type 0
 EndsWithZero exit = exit.value ≡ pos 0
 
 module _ (w : World) (signatures : List Signature) (call : Calling) (fuel : ℕ) (f : Function) (task : Task) (typed : IsTypedFunction signatures f) (is : IsTaskOf signatures f (Some task)) where
@@ -31,7 +31,7 @@ module _ (w : World) (signatures : List Signature) (call : Calling) (fuel : ℕ)
   zero_exit base end Continued h = refl
   zero_exit base end (Returned v line) h = h
 
-  zero_applied : (values : List ℤ) (line : ℕ) (t : Tape) → Comes EndsWithZero (applied w call fuel f values line t)
+  pub zero_applied : (values : List ℤ) (line : ℕ) (t : Tape) → Comes EndsWithZero (applied w call fuel f values line t)
   zero_applied values line t =
       gives_after EndsWithZero (ask_in w Plain (Enter f.frame) line t) _ (λ base u.
       gives_after EndsWithZero (stores w base f.parameters values line u) _ (λ r u'.
