@@ -1,3 +1,4 @@
 pub mod Statements
 pub mod Values
 pub mod Functions
+pub mod Programs

@@ -35,7 +35,7 @@ then_skip w calls n base (Goes Sticks t) = refl
 then_skip w calls n base (Stops why t) = refl
 
 module _ (w : World) (calls : Calls) (call : Calling) (n base : ℕ)
-    (value unused : (line : ℕ) → Expression → List Piece) (unless : (line : ℕ) → Way → Expression → List Piece)
+    (value unused : (line : ℕ) → Expression → List Piece) (choice : (line : ℕ) → Expression → (yes no : Piece) → List Piece) (when : (line : ℕ) → Expression → (yes : Piece) → List Piece) (unless : (line : ℕ) → Way → Expression → List Piece)
     (signatures : List Signature)
     (gives : (line : ℕ) (e : Expression) → IsTyped signatures e → (qs : List Piece) (st : List ℕ) (t : Tape)
     → means w calls n base (row (value line e ++ qs)) Plain st t ≡ then_do (value_of w call base Plain line e t) (λ v t'. means w calls n base (row qs) Plain (cell_of v ∷ st) t'))
@@ -47,10 +47,10 @@ module _ (w : World) (calls : Calls) (call : Calling) (n base : ℕ)
     → means w calls n base (row (unless line way e)) Plain st t
     ≡ then_do (value_of w call base Plain line e t) (λ v t'. if is_true v then Goes (Falls Plain st) t' else Goes (Jumps way Plain st) t'))
     (chooses : (line : ℕ) (e : Expression) → IsTyped signatures e → (p q : Piece) (st : List ℕ) (t : Tape)
-    → means w calls n base (row (value line e ++ Choice line p q ∷ [])) Plain st t
+    → means w calls n base (row (choice line e p q)) Plain st t
     ≡ then_do (value_of w call base Plain line e t) (λ v t'. if is_true v then means w calls n base p Plain st t' else means w calls n base q Plain st t'))
     (does : (line : ℕ) (e : Expression) → IsTyped signatures e → (p : Piece) (st : List ℕ) (t : Tape)
-    → means w calls n base (row (value line e ++ When line p ∷ [])) Plain st t
+    → means w calls n base (row (when line e p)) Plain st t
     ≡ then_do (value_of w call base Plain line e t) (λ v t'. if is_true v then means w calls n base p Plain st t' else Goes (Falls Plain st) t'))
     (same_address : (v : ℤ) → cells.address_of (cell_of v) ≡ address_of v)
   where
@@ -137,7 +137,7 @@ module _ (w : World) (calls : Calls) (call : Calling) (n base : ℕ)
             (λ t. ap (λ ps. then_do (then_do (run (row ps) Plain [] t) (on_fall again)) caught_breaks) (sym (append-nil (unused line step)))
             ∙ step_means [] again (testing (value_at line test) (turns_of k)) (testing_means (turns w line k (run head) (run second)) (turns_of k) (turns_mean k)) t))
 
-        while_means : (t : Tape) → run (loop value unused unless line true test step inside) Plain [] t ≡ then_do (testing (value_at line test) (turns_of n) t) exits
+        while_means : (t : Tape) → run (loop value unused choice when unless line true test step inside) Plain [] t ≡ then_do (testing (value_at line test) (turns_of n) t) exits
         while_means t = testing_means (turns w line n (run head) (run second)) (turns_of n) (turns_mean n) t
 
       module _ where
@@ -152,7 +152,7 @@ module _ (w : World) (calls : Calls) (call : Calling) (n base : ℕ)
             (body_means (row (unused line step ++ unless line Breaks test)) again (λ t'. then_do (value_at line step t') (λ v t''. testing (value_at line test) (turns_of k) t''))
             (step_means (unless line Breaks test) again (testing (value_at line test) (turns_of k)) (testing_means again (turns_of k) (do_turns_mean k))))
 
-        do_means : (t : Tape) → run (loop value unused unless line false test step inside) Plain [] t ≡ then_do (turns_of n t) exits
+        do_means : (t : Tape) → run (loop value unused choice when unless line false test step inside) Plain [] t ≡ then_do (turns_of n t) exits
         do_means t = do_turns_mean n t
 
     -- ---- waits
@@ -163,17 +163,17 @@ module _ (w : World) (calls : Calls) (call : Calling) (n base : ℕ)
     told_on (Stops why t') go rest same = refl
 
     abbrev awaiting : (line : ℕ) → Expressions → List Piece
-    awaiting line others = Do line (ops.Mark marks.Outside) ∷ Do line (ops.Mark marks.Wait) ∷ waits value unused unless line others
+    awaiting line others = Do line (ops.Mark marks.Outside) ∷ Do line (ops.Mark marks.Wait) ∷ waits value unused choice when unless line others
 
-    one_awaited : (line : ℕ) (others : Expressions) → ((t : Tape) → run (row (waits value unused unless line others)) Plain [] t ≡ then_do (awaited w call base n line others t) exits)
+    one_awaited : (line : ℕ) (others : Expressions) → ((t : Tape) → run (row (waits value unused choice when unless line others)) Plain [] t ≡ then_do (awaited w call base n line others t) exits)
         → (o : Outcome ℤ) → then_do o (λ v t'. run (row (awaiting line others)) Waiting (cell_of v ∷ []) t')
         ≡ then_do (then_do o (λ p t'. then_do (ask w (Wait (address_of p)) line t') (λ r t''. awaited w call base n line others t''))) exits
     one_awaited line others same (Goes p t') =
-        ap (λ a. then_do (then_do (ask w (Wait a) line t') (λ r t''. Goes (Falls Plain []) t'')) (on_fall (run (row (waits value unused unless line others))))) (same_address p)
-        ∙ told_on (ask w (Wait (address_of p)) line t') (run (row (waits value unused unless line others))) (awaited w call base n line others) same
+        ap (λ a. then_do (then_do (ask w (Wait a) line t') (λ r t''. Goes (Falls Plain []) t'')) (on_fall (run (row (waits value unused choice when unless line others))))) (same_address p)
+        ∙ told_on (ask w (Wait (address_of p)) line t') (run (row (waits value unused choice when unless line others))) (awaited w call base n line others) same
     one_awaited line others same (Stops why t') = refl
 
-    waits_mean : (line : ℕ) (places : Expressions) → AreAddresses signatures places → (t : Tape) → run (row (waits value unused unless line places)) Plain [] t ≡ then_do (awaited w call base n line places t) exits
+    waits_mean : (line : ℕ) (places : Expressions) → AreAddresses signatures places → (t : Tape) → run (row (waits value unused choice when unless line places)) Plain [] t ≡ then_do (awaited w call base n line places t) exits
     waits_mean line Empty are t = refl
     waits_mean line (More e others) are t =
         waited line e are.0 are.1 (awaiting line others) [] t
@@ -201,9 +201,9 @@ module _ (w : World) (calls : Calls) (call : Calling) (n base : ℕ)
     marked line core.Barrier t = told_marked (ask w Barrier line t)
 
     where_made : (b : Bool) (line : ℕ) (places : Expressions) → AreAddresses signatures places → (t : Tape)
-        → then_do (if b then Goes (Falls Plain (1 ∷ [])) t else Goes (Falls Plain (0 ∷ [])) t) (on_fall (run (row (When line (row (waits value unused unless line places)) ∷ []))))
+        → then_do (if b then Goes (Falls Plain (1 ∷ [])) t else Goes (Falls Plain (0 ∷ [])) t) (on_fall (run (row (When line (row (waits value unused choice when unless line places)) ∷ []))))
         ≡ then_do (if b then awaited w call base n line places t else Goes Next t) exits
-    where_made true line places are t = then_skip w calls n base (run (row (waits value unused unless line places)) Plain [] t) ∙ waits_mean line places are t
+    where_made true line places are t = then_skip w calls n base (run (row (waits value unused choice when unless line places)) Plain [] t) ∙ waits_mean line places are t
     where_made false line places are t = refl
 
     -- statements one after another
@@ -216,7 +216,7 @@ module _ (w : World) (calls : Calls) (call : Calling) (n base : ℕ)
     followed (Stops why t') go rest same = refl
 
     abbrev piece : ℕ → Statement → Piece
-    piece = piece_of value unused unless
+    piece = piece_of value unused choice when unless
 
     module _ (result : IntType) where
       mutual
@@ -243,8 +243,8 @@ module _ (w : World) (calls : Calls) (call : Calling) (n base : ℕ)
         piece_means in_loop inner (Await line places) is t = where_made (makes_tasks t) line places is t
 
         pub pieces_mean : (in_loop : Bool) (inner : ℕ) (all : Statements) → AreTyped signatures result in_loop all → (t : Tape)
-            → run (pieces_of value unused unless inner all) Plain [] t ≡ then_do (meanings w call base n all t) exits
+            → run (pieces_of value unused choice when unless inner all) Plain [] t ≡ then_do (meanings w call base n all t) exits
         pieces_mean in_loop inner Nothing is t = refl
         pieces_mean in_loop inner (Then s others) is t =
-            ap (λ o. then_do o (on_fall (run (pieces_of value unused unless inner others)))) (piece_means in_loop inner s is.0 t)
-            ∙ followed (meaning w call base n s t) (run (pieces_of value unused unless inner others)) (meanings w call base n others) (pieces_mean in_loop inner others is.1)
+            ap (λ o. then_do o (on_fall (run (pieces_of value unused choice when unless inner others)))) (piece_means in_loop inner s is.0 t)
+            ∙ followed (meaning w call base n s t) (run (pieces_of value unused choice when unless inner others)) (meanings w call base n others) (pieces_mean in_loop inner others is.1)

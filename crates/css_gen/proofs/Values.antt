@@ -11,7 +11,7 @@ use Rattle.css_core.specs.Expressions.{bytes_of}
 use Rattle.css_isa.specs.Cells.{cell_of}
 use Rattle.css_gen.specs.Functions.{width_of}
 
-congruent-cell : (v : ℤ) → AreCongruent (2 ^ 64) (pos (cell_of v)) v
+pub congruent-cell : (v : ℤ) → AreCongruent (2 ^ 64) (pos (cell_of v)) v
 congruent-cell v = congruent-modulo v (2 ^ 64) (lit< tt)
 
 -- the low bits of a cell are the value's

@@ -28,7 +28,7 @@ shape_of task = record { high = task.high; arguments = map shape_of_part task.pa
 abbrev pub datum_of : core.Datum → Datum
 datum_of d = record { address = d.address; bytes = d.bytes }
 
-module _ (value unused : (line : ℕ) → Expression → List Piece) (unless : (line : ℕ) → Way → Expression → List Piece) where
+module _ (value unused : (line : ℕ) → Expression → List Piece) (choice : (line : ℕ) → Expression → (yes no : Piece) → List Piece) (when : (line : ℕ) → Expression → (yes : Piece) → List Piece) (unless : (line : ℕ) → Way → Expression → List Piece) where
   -- a name may be missing
   abbrev pub function_of : (name : List ℕ) → core.Function → Function
   function_of name f = record {
@@ -36,7 +36,7 @@ module _ (value unused : (line : ℕ) → Expression → List Piece) (unless : (
     frame = f.frame;
     parameters = map width_of f.parameters;
     task = option_map shape_of f.task;
-    body = pieces_of value unused unless f.end f.body;
+    body = pieces_of value unused choice when unless f.end f.body;
     end = f.end;
   }
 

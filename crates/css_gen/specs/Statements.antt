@@ -10,7 +10,7 @@ use Rattle.css_isa.specs.declared.code.Mark.TheVariants as marks
 use Rattle.css_isa.specs.Cells.{cell_of}
 use Rattle.css_blocks.specs.declared.part.Way.{Way}
 use Rattle.css_blocks.specs.declared.part.Way.TheVariants.{Breaks, Continues}
-use Rattle.css_blocks.specs.Pieces.{Piece, Skip, Do, Choice, When, Loop, Catch, Exit, Leave, row}
+use Rattle.css_blocks.specs.Pieces.{Piece, Skip, Do, When, Loop, Catch, Exit, Leave, row}
 use Rattle.css_blocks.specs.Pieces as pieces
 use Rattle.css_blocks.specs.Meaning.{Exits, Falls, Jumps, Returns}
 
@@ -19,8 +19,9 @@ mark_of core.Start = marks.Start
 mark_of core.Finish = marks.Finish
 mark_of core.Barrier = marks.Barrier
 
--- with the code of an expression that gives its value, of one whose value isn't used, and of one at whose 0 a way out is taken
-module _ (value unused : (line : ℕ) → Expression → List Piece) (unless : (line : ℕ) → Way → Expression → List Piece) where
+-- with the code of an expression that gives its value, of one whose value isn't used, and of one at whose 0 a way out is taken, and of the pieces that it decides between
+module _ (value unused : (line : ℕ) → Expression → List Piece) (choice : (line : ℕ) → Expression → (yes no : Piece) → List Piece) (when : (line : ℕ) → Expression → (yes : Piece) → List Piece)
+    (unless : (line : ℕ) → Way → Expression → List Piece) where
   -- waits for one address after another
   abbrev pub waits : (line : ℕ) → Expressions → List Piece
   waits line Empty = []
@@ -38,8 +39,8 @@ module _ (value unused : (line : ℕ) → Expression → List Piece) (unless : (
     pub piece_of : (loop_line : ℕ) → Statement → Piece
     piece_of inner (Eval line e) = row (unused line e)
     piece_of inner (Block all) = pieces_of inner all
-    piece_of inner (If line test s (Block Nothing)) = row (value line test ++ When line (piece_of inner s) ∷ [])
-    piece_of inner (If line test s other) = row (value line test ++ Choice line (piece_of inner s) (piece_of inner other) ∷ [])
+    piece_of inner (If line test s (Block Nothing)) = row (when line test (piece_of inner s))
+    piece_of inner (If line test s other) = row (choice line test (piece_of inner s) (piece_of inner other))
     piece_of inner (Loop line tests_first test step body) = loop line tests_first test step (piece_of line body)
     piece_of inner Break = Exit inner Breaks
     piece_of inner Continue = Exit inner Continues
