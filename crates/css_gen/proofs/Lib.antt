@@ -2,3 +2,4 @@ pub mod Statements
 pub mod Values
 pub mod Functions
 pub mod Programs
+pub mod Finding
