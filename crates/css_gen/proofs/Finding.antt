@@ -57,80 +57,80 @@ module _ (code : Code) where
       (chooses : (line : ℕ) (e : Expression) → IsTyped signatures e → (p q : Piece) (ls : Ways Level) → Stands ls p ground ground → Stands ls q ground ground → Stands ls (row (choice line e p q)) ground ground)
       (does : (line : ℕ) (e : Expression) → IsTyped signatures e → (p : Piece) (ls : Ways Level) → Stands ls p ground ground → Stands ls (row (when line e p)) ground ground)
       (parts : (line : ℕ) (way : Way) (e : Expression) → IsTyped signatures e → (ls : Ways Level) → at_way ls way ≡ ground → Stands ls (row (unless line way e)) ground ground)
-      where
-    -- in a loop both ways out meet without cells
-    abbrev pub MeetHere : Bool → Ways Level → Type 0
-    MeetHere true ls = (ls.breaks ≡ ground) × (ls.continues ≡ ground)
-    MeetHere false ls = Unit {0}
+    where
+      -- in a loop both ways out meet without cells
+      abbrev pub MeetHere : Bool → Ways Level → Type 0
+      MeetHere true ls = (ls.breaks ≡ ground) × (ls.continues ≡ ground)
+      MeetHere false ls = Unit {0}
 
-    meets : (in_loop : Bool) (ls : Ways Level) → IsTrue in_loop → MeetHere in_loop ls → (ls.breaks ≡ ground) × (ls.continues ≡ ground)
-    meets true ls is h = h
-    meets false ls is h = cc
+      meets : (in_loop : Bool) (ls : Ways Level) → IsTrue in_loop → MeetHere in_loop ls → (ls.breaks ≡ ground) × (ls.continues ≡ ground)
+      meets true ls is h = h
+      meets false ls is h = cc
 
-    caught : (way : Way) (ls : Ways Level) (p : Piece) (l m : Level) → Stands (aimed way m ls) p l m → Stands ls (Catch way p) l m
-    caught way ls p l m inside = record { finds = subst (λ x. Finds code (aimed way x ls) p l) (sym inside.leaves) inside.finds; leaves = inside.leaves }
+      caught : (way : Way) (ls : Ways Level) (p : Piece) (l m : Level) → Stands (aimed way m ls) p l m → Stands ls (Catch way p) l m
+      caught way ls p l m inside = record { finds = subst (λ x. Finds code (aimed way x ls) p l) (sym inside.leaves) inside.finds; leaves = inside.leaves }
 
-    looped : (ls : Ways Level) (line : ℕ) (p q : Piece) → Stands ls p ground ground → Stands ls q ground ground → Stands ls (pieces.Loop line p q) ground ground
-    looped ls line p q first second = record {
-      finds = (first.finds, subst (Finds code ls q) (sym first.leaves) second.finds, ap (behind code q) first.leaves ∙ second.leaves ∙ sym refl);
-      leaves = first.leaves;
-    }
+      looped : (ls : Ways Level) (line : ℕ) (p q : Piece) → Stands ls p ground ground → Stands ls q ground ground → Stands ls (pieces.Loop line p q) ground ground
+      looped ls line p q first second = record {
+        finds = (first.finds, subst (Finds code ls q) (sym first.leaves) second.finds, ap (behind code q) first.leaves ∙ second.leaves ∙ sym refl);
+        leaves = first.leaves;
+      }
 
-    loop_stands : (ls : Ways Level) (line : ℕ) (tests_first : Bool) (test step : Expression) (body : Piece) → IsTyped signatures test → IsTyped signatures step
-        → ((ls : Ways Level) → (ls.breaks ≡ ground) × (ls.continues ≡ ground) → Stands ls body ground ground)
-        → Stands ls (loop value unused choice when unless line tests_first test step body) ground ground
-    loop_stands ls line true test step body is_test is_step inside =
-        let out = aimed Breaks ground ls in
-        caught Breaks ls _ ground ground (looped out line _ _
-        (parts line Breaks test is_test out refl)
-        (stands_then out (Catch Continues body) (row (unused line step)) ground ground ground
-        (caught Continues out body ground ground (inside (aimed Continues ground out) (refl, refl)))
-        (drops line step is_step out)))
-    loop_stands ls line false test step body is_test is_step inside =
-        let out = aimed Breaks ground ls in
-        caught Breaks ls _ ground ground (looped out line Skip _
-        (record { finds = tt; leaves = refl })
-        (stands_then out (Catch Continues body) (row (unused line step ++ unless line Breaks test)) ground ground ground
-        (caught Continues out body ground ground (inside (aimed Continues ground out) (refl, refl)))
-        (stands_append out (unused line step) (unless line Breaks test) ground ground ground (drops line step is_step out) (parts line Breaks test is_test out refl))))
+      loop_stands : (ls : Ways Level) (line : ℕ) (tests_first : Bool) (test step : Expression) (body : Piece) → IsTyped signatures test → IsTyped signatures step
+          → ((ls : Ways Level) → (ls.breaks ≡ ground) × (ls.continues ≡ ground) → Stands ls body ground ground)
+          → Stands ls (loop value unused choice when unless line tests_first test step body) ground ground
+      loop_stands ls line true test step body is_test is_step inside =
+          let out = aimed Breaks ground ls in
+          caught Breaks ls _ ground ground (looped out line _ _
+          (parts line Breaks test is_test out refl)
+          (stands_then out (Catch Continues body) (row (unused line step)) ground ground ground
+          (caught Continues out body ground ground (inside (aimed Continues ground out) (refl, refl)))
+          (drops line step is_step out)))
+      loop_stands ls line false test step body is_test is_step inside =
+          let out = aimed Breaks ground ls in
+          caught Breaks ls _ ground ground (looped out line Skip _
+          (record { finds = tt; leaves = refl })
+          (stands_then out (Catch Continues body) (row (unused line step ++ unless line Breaks test)) ground ground ground
+          (caught Continues out body ground ground (inside (aimed Continues ground out) (refl, refl)))
+          (stands_append out (unused line step) (unless line Breaks test) ground ground ground (drops line step is_step out) (parts line Breaks test is_test out refl))))
 
-    waits_stand : (ls : Ways Level) (line : ℕ) (places : Expressions) → AreAddresses signatures places → Stands ls (row (waits value unused choice when unless line places)) ground ground
-    waits_stand ls line Empty are = record { finds = tt; leaves = refl }
-    waits_stand ls line (More e others) are =
-        let rest = waits value unused choice when unless line others in
-        let behind_value = stands_append ls (value line e) (Do line (ops.Mark marks.Outside) ∷ Do line (ops.Mark marks.Wait) ∷ rest) (level 0 Waiting) (level 1 Waiting) ground
-            (waited line e are.0 are.1 ls)
-            (record { finds = ((refl, omega arith, tt), ((refl, omega arith, tt), (waits_stand ls line others are.2).finds)); leaves = (waits_stand ls line others are.2).leaves }) in
-        record { finds = ((refl, omega arith, tt), behind_value.finds); leaves = behind_value.leaves }
+      waits_stand : (ls : Ways Level) (line : ℕ) (places : Expressions) → AreAddresses signatures places → Stands ls (row (waits value unused choice when unless line places)) ground ground
+      waits_stand ls line Empty are = record { finds = tt; leaves = refl }
+      waits_stand ls line (More e others) are =
+          let rest = waits value unused choice when unless line others in
+          let behind_value = stands_append ls (value line e) (Do line (ops.Mark marks.Outside) ∷ Do line (ops.Mark marks.Wait) ∷ rest) (level 0 Waiting) (level 1 Waiting) ground
+          (waited line e are.0 are.1 ls)
+          (record { finds = ((refl, omega arith, tt), ((refl, omega arith, tt), (waits_stand ls line others are.2).finds)); leaves = (waits_stand ls line others are.2).leaves }) in
+          record { finds = ((refl, omega arith, tt), behind_value.finds); leaves = behind_value.leaves }
 
-    mark_stands : (ls : Ways Level) (line : ℕ) (kind : Directive) → Stands ls (Do line (ops.Mark (mark_of kind))) ground ground
-    mark_stands ls line core.Start = record { finds = (refl, omega arith, refl); leaves = refl }
-    mark_stands ls line core.Finish = record { finds = (refl, omega arith, refl); leaves = refl }
-    mark_stands ls line core.Barrier = record { finds = (refl, omega arith, refl); leaves = refl }
+      mark_stands : (ls : Ways Level) (line : ℕ) (kind : Directive) → Stands ls (Do line (ops.Mark (mark_of kind))) ground ground
+      mark_stands ls line core.Start = record { finds = (refl, omega arith, refl); leaves = refl }
+      mark_stands ls line core.Finish = record { finds = (refl, omega arith, refl); leaves = refl }
+      mark_stands ls line core.Barrier = record { finds = (refl, omega arith, refl); leaves = refl }
 
-    abbrev piece : ℕ → Statement → Piece
-    piece = piece_of value unused choice when unless
+      abbrev piece : ℕ → Statement → Piece
+      piece = piece_of value unused choice when unless
 
-    module _ (result : IntType) where
-      mutual
-        pub piece_stands : (in_loop : Bool) (inner : ℕ) (s : Statement) → IsTypedStatement signatures result in_loop s → (ls : Ways Level) → MeetHere in_loop ls → Stands ls (piece inner s) ground ground
-        piece_stands in_loop inner (Eval line e) is ls meet = drops line e is ls
-        piece_stands in_loop inner (Block all) is ls meet = pieces_stand in_loop inner all is ls meet
-        piece_stands in_loop inner (If line test s (Block Nothing)) is ls meet = does line test is.0 (piece inner s) ls (piece_stands in_loop inner s is.1 ls meet)
-        piece_stands in_loop inner (If line test s other) is ls meet =
-            chooses line test is.0 (piece inner s) (piece inner other) ls (piece_stands in_loop inner s is.1 ls meet) (piece_stands in_loop inner other is.2 ls meet)
-        piece_stands in_loop inner (Loop line tests_first test step body) is ls meet =
-            loop_stands ls line tests_first test step (piece line body) is.0 is.1 (λ ls meet. piece_stands true line body is.2 ls meet)
-        piece_stands in_loop inner Break is ls meet = record { finds = (meets in_loop ls is meet).0; leaves = refl }
-        piece_stands in_loop inner Continue is ls meet = record { finds = (meets in_loop ls is meet).1; leaves = refl }
-        piece_stands in_loop inner (Return line e) is ls meet =
-            stands_append ls (value line e) (Leave line ∷ []) ground one_cell ground (gives line e (result, is) ls) (record { finds = ((omega arith, refl), tt); leaves = refl })
-        piece_stands in_loop inner (Mark line kind) is ls meet = mark_stands ls line kind
-        piece_stands in_loop inner (Await line places) is ls meet =
-            let inside = waits_stand ls line places is in
-            record { finds = ((refl, omega arith, tt), ((omega arith, inside.finds, inside.leaves), tt)); leaves = refl }
+      module _ (result : IntType) where
+        mutual
+          pub piece_stands : (in_loop : Bool) (inner : ℕ) (s : Statement) → IsTypedStatement signatures result in_loop s → (ls : Ways Level) → MeetHere in_loop ls → Stands ls (piece inner s) ground ground
+          piece_stands in_loop inner (Eval line e) is ls meet = drops line e is ls
+          piece_stands in_loop inner (Block all) is ls meet = pieces_stand in_loop inner all is ls meet
+          piece_stands in_loop inner (If line test s (Block Nothing)) is ls meet = does line test is.0 (piece inner s) ls (piece_stands in_loop inner s is.1 ls meet)
+          piece_stands in_loop inner (If line test s other) is ls meet =
+              chooses line test is.0 (piece inner s) (piece inner other) ls (piece_stands in_loop inner s is.1 ls meet) (piece_stands in_loop inner other is.2 ls meet)
+          piece_stands in_loop inner (Loop line tests_first test step body) is ls meet =
+              loop_stands ls line tests_first test step (piece line body) is.0 is.1 (λ ls meet. piece_stands true line body is.2 ls meet)
+          piece_stands in_loop inner Break is ls meet = record { finds = (meets in_loop ls is meet).0; leaves = refl }
+          piece_stands in_loop inner Continue is ls meet = record { finds = (meets in_loop ls is meet).1; leaves = refl }
+          piece_stands in_loop inner (Return line e) is ls meet =
+              stands_append ls (value line e) (Leave line ∷ []) ground one_cell ground (gives line e (result, is) ls) (record { finds = ((omega arith, refl), tt); leaves = refl })
+          piece_stands in_loop inner (Mark line kind) is ls meet = mark_stands ls line kind
+          piece_stands in_loop inner (Await line places) is ls meet =
+              let inside = waits_stand ls line places is in
+              record { finds = ((refl, omega arith, tt), ((omega arith, inside.finds, inside.leaves), tt)); leaves = refl }
 
-        pub pieces_stand : (in_loop : Bool) (inner : ℕ) (all : Statements) → AreTyped signatures result in_loop all → (ls : Ways Level) → MeetHere in_loop ls → Stands ls (pieces_of value unused choice when unless inner all) ground ground
-        pieces_stand in_loop inner Nothing is ls meet = record { finds = tt; leaves = refl }
-        pieces_stand in_loop inner (Then s others) is ls meet =
-            stands_then ls (piece inner s) (pieces_of value unused choice when unless inner others) ground ground ground (piece_stands in_loop inner s is.0 ls meet) (pieces_stand in_loop inner others is.1 ls meet)
+          pub pieces_stand : (in_loop : Bool) (inner : ℕ) (all : Statements) → AreTyped signatures result in_loop all → (ls : Ways Level) → MeetHere in_loop ls → Stands ls (pieces_of value unused choice when unless inner all) ground ground
+          pieces_stand in_loop inner Nothing is ls meet = record { finds = tt; leaves = refl }
+          pieces_stand in_loop inner (Then s others) is ls meet =
+              stands_then ls (piece inner s) (pieces_of value unused choice when unless inner others) ground ground ground (piece_stands in_loop inner s is.0 ls meet) (pieces_stand in_loop inner others is.1 ls meet)

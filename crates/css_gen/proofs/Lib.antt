@@ -3,3 +3,4 @@ pub mod Values
 pub mod Functions
 pub mod Programs
 pub mod Finding
+pub mod Confined

@@ -129,44 +129,44 @@ module _ (value unused : (line : ℕ) → Expression → List Piece) (choice : (
 
   module _ (w : World)
       (runs : (n : ℕ) → Agrees w p.functions (source.calls w p.functions n) (calls_of w of_pieces.functions n) → (k : ℕ) (f : core.Function) (g : Function) → slice_get p.functions k ≡ Some f → slice_get of_pieces.functions k ≡ Some g
-          → (base : ℕ) (t : Tape) → means w (calls_of w of_pieces.functions n) n base g.body Plain [] t ≡ then_do (meanings w (source.calls w p.functions n) base n f.body t) (λ flow t'. Goes (exits_of flow) t'))
-      where
-    agrees_at : (n : ℕ) → Agrees w p.functions (source.calls w p.functions n) (calls_of w of_pieces.functions n)
-    agrees_at = agrees w p.functions of_pieces.functions made_of typed_function runs
+      → (base : ℕ) (t : Tape) → means w (calls_of w of_pieces.functions n) n base g.body Plain [] t ≡ then_do (meanings w (source.calls w p.functions n) base n f.body t) (λ flow t'. Goes (exits_of flow) t'))
+    where
+      agrees_at : (n : ℕ) → Agrees w p.functions (source.calls w p.functions n) (calls_of w of_pieces.functions n)
+      agrees_at = agrees w p.functions of_pieces.functions made_of typed_function runs
 
-    -- each function from its entry on
-    run_means : (k : ℕ) (f : core.Function) → slice_get p.functions k ≡ Some f → (vs : List ℤ) (line : ℕ) (t : Tape) (n : ℕ)
-        → run_of w of_pieces k (map cell_of vs) line t n ≡ then_do (source.applied w (source.calls w p.functions n) n f vs line t) (λ e t'. Goes (halt_of e) t')
-    run_means k f e vs line t n =
-        let made = made_of k f e in
-        ap (λ o. blocks.begun w of_pieces.functions n o (map cell_of vs) line t) made.1
-        ∙ applied_means w (calls_of w of_pieces.functions n) (source.calls w p.functions n) n f made.0 made.2.frame made.2.parameters made.2.end (runs n (agrees_at n) k f made.0 e made.1) vs line t
+      -- each function from its entry on
+      run_means : (k : ℕ) (f : core.Function) → slice_get p.functions k ≡ Some f → (vs : List ℤ) (line : ℕ) (t : Tape) (n : ℕ)
+          → run_of w of_pieces k (map cell_of vs) line t n ≡ then_do (source.applied w (source.calls w p.functions n) n f vs line t) (λ e t'. Goes (halt_of e) t')
+      run_means k f e vs line t n =
+          let made = made_of k f e in
+          ap (λ o. blocks.begun w of_pieces.functions n o (map cell_of vs) line t) made.1
+          ∙ applied_means w (calls_of w of_pieces.functions n) (source.calls w p.functions n) n f made.0 made.2.frame made.2.parameters made.2.end (runs n (agrees_at n) k f made.0 e made.1) vs line t
 
-    frame_there : (k : ℕ) (f : core.Function) → slice_get p.functions k ≡ Some f → machine.frame_of (slice_get (code_of of_pieces).functions k) ≡ f.frame
-    frame_there k f e =
-        let made = made_of k f e in
-        ap machine.frame_of (slice_get-map routine_of of_pieces.functions k ∙ ap (option_map routine_of) made.1) ∙ made.2.frame
+      frame_there : (k : ℕ) (f : core.Function) → slice_get p.functions k ≡ Some f → machine.frame_of (slice_get (code_of of_pieces).functions k) ≡ f.frame
+      frame_there k f e =
+          let made = made_of k f e in
+          ap machine.frame_of (slice_get-map routine_of of_pieces.functions k ∙ ap (option_map routine_of) made.1) ∙ made.2.frame
 
-    entry_there : (f : core.Function) → slice_get p.functions p.main ≡ Some f → machine.entry_line (slice_get (code_of of_pieces).functions p.main) ≡ f.line
-    entry_there f e =
-        let r = function_there value unused choice when unless p.main 0 names p.functions p.main f e in
-        ap machine.entry_line (slice_get-map routine_of of_pieces.functions p.main ∙ ap (option_map routine_of) r.1)
-        ∙ ap (λ b. machine.entry_line (Some (routine_of (if b then opened value unused choice when unless f.line (function_of value unused choice when unless r.0 f) else function_of value unused choice when unless r.0 f)))) (nat_same p.main)
+      entry_there : (f : core.Function) → slice_get p.functions p.main ≡ Some f → machine.entry_line (slice_get (code_of of_pieces).functions p.main) ≡ f.line
+      entry_there f e =
+          let r = function_there value unused choice when unless p.main 0 names p.functions p.main f e in
+          ap machine.entry_line (slice_get-map routine_of of_pieces.functions p.main ∙ ap (option_map routine_of) r.1)
+          ∙ ap (λ b. machine.entry_line (Some (routine_of (if b then opened value unused choice when unless f.line (function_of value unused choice when unless r.0 f) else function_of value unused choice when unless r.0 f)))) (nat_same p.main)
 
-    pub source_means : (n : ℕ) → blocks.source w of_pieces n ≡ then_do (source.source w n p) (λ v t. Goes (Some v) t)
-    source_means n =
-        let f = typed.main.0 in
-        let e = typed.main.1 in
-        let applied = source.applied w (source.calls w p.functions n) n f [] f.line [] in
-        ap (λ line. then_do (run_of w of_pieces p.main [] line [] n) (machine.main_ends w (machine.frame_of (slice_get (code_of of_pieces).functions p.main)))) (entry_there f e)
-        ∙ ap (λ frame. then_do (run_of w of_pieces p.main [] f.line [] n) (machine.main_ends w frame)) (frame_there p.main f e)
-        ∙ ap (λ o. then_do o (machine.main_ends w f.frame)) (run_means p.main f e [] f.line [] n)
-        ∙ main_behind w f.frame applied (subst (λ t. Comes (λ x. IsInRange t x.value) applied) typed.main.3 (fits_applied w signatures (source.calls w p.functions n) (fits_calls w p.functions typed.functions n) n f (typed_function f p.main e) [] f.line []))
-        ∙ sym (ap (λ o. then_do (source.main_of w n p.functions o []) (λ v t. Goes (Some v) t)) e)
+      pub source_means : (n : ℕ) → blocks.source w of_pieces n ≡ then_do (source.source w n p) (λ v t. Goes (Some v) t)
+      source_means n =
+          let f = typed.main.0 in
+          let e = typed.main.1 in
+          let applied = source.applied w (source.calls w p.functions n) n f [] f.line [] in
+          ap (λ line. then_do (run_of w of_pieces p.main [] line [] n) (machine.main_ends w (machine.frame_of (slice_get (code_of of_pieces).functions p.main)))) (entry_there f e)
+          ∙ ap (λ frame. then_do (run_of w of_pieces p.main [] f.line [] n) (machine.main_ends w frame)) (frame_there p.main f e)
+          ∙ ap (λ o. then_do o (machine.main_ends w f.frame)) (run_means p.main f e [] f.line [] n)
+          ∙ main_behind w f.frame applied (subst (λ t. Comes (λ x. IsInRange t x.value) applied) typed.main.3 (fits_applied w signatures (source.calls w p.functions n) (fits_calls w p.functions typed.functions n) n f (typed_function f p.main e) [] f.line []))
+          ∙ sym (ap (λ o. then_do (source.main_of w n p.functions o []) (λ v t. Goes (Some v) t)) e)
 
-    pub alone_means : (k : ℕ) (f : core.Function) → slice_get p.functions k ≡ Some f → (vs : List ℤ) (line n : ℕ)
-        → blocks.alone w of_pieces k (map cell_of vs) line n ≡ then_do (source.alone w n p f vs line) (λ v t. Goes (Some (cell_of v)) t)
-    alone_means k f e vs line n =
-        ap (λ frame. then_do (run_of w of_pieces k (map cell_of vs) line [] n) (machine.body_ends w frame)) (frame_there k f e)
-        ∙ ap (λ o. then_do o (machine.body_ends w f.frame)) (run_means k f e vs line [] n)
-        ∙ body_behind w f.frame (source.applied w (source.calls w p.functions n) n f vs line [])
+      pub alone_means : (k : ℕ) (f : core.Function) → slice_get p.functions k ≡ Some f → (vs : List ℤ) (line n : ℕ)
+          → blocks.alone w of_pieces k (map cell_of vs) line n ≡ then_do (source.alone w n p f vs line) (λ v t. Goes (Some (cell_of v)) t)
+      alone_means k f e vs line n =
+          ap (λ frame. then_do (run_of w of_pieces k (map cell_of vs) line [] n) (machine.body_ends w frame)) (frame_there k f e)
+          ∙ ap (λ o. then_do o (machine.body_ends w f.frame)) (run_means k f e vs line [] n)
+          ∙ body_behind w f.frame (source.applied w (source.calls w p.functions n) n f vs line [])

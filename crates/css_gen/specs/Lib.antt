@@ -1,3 +1,4 @@
 pub mod Statements
 pub mod Functions
 pub mod Codes
+pub mod Inner
