@@ -4,3 +4,4 @@ pub mod Functions
 pub mod Programs
 pub mod Finding
 pub mod Confined
+pub mod Whole
