@@ -43,10 +43,10 @@ nat_same n = eq-eqb n (0 + n) (omega arith)
 -- ---- the functions of a program
 
 module _ (value unused : (line : ℕ) → Expression → List Piece) (choice : (line : ℕ) → Expression → (yes no : Piece) → List Piece) (when : (line : ℕ) → Expression → (yes : Piece) → List Piece) (unless : (line : ℕ) → Way → Expression → List Piece) where
-  abbrev built : ℕ → ℕ → List ℕ → core.Function → Function
+  abbrev pub built : ℕ → ℕ → List ℕ → core.Function → Function
   built = function_at value unused choice when unless
 
-  made_at : (main k : ℕ) (name : List ℕ) (f : core.Function) → IsMade f (built main k name f)
+  pub made_at : (main k : ℕ) (name : List ℕ) (f : core.Function) → IsMade f (built main k name f)
   made_at main k name f = by (nat_eq main k)
     where
       by : (b : Bool) → IsMade f (if b then opened value unused choice when unless f.line (function_of value unused choice when unless name f) else function_of value unused choice when unless name f)
@@ -65,6 +65,30 @@ module _ (value unused : (line : ℕ) → Expression → List Piece) (choice : (
   function_there main k (name ∷ names) (g ∷ fs) (suc j) f e =
       let r = function_there main (k + 1) names fs j f e in
       (r.0, r.1 ∙ ap (λ x. Some (built main x r.0 f)) (omega arith))
+
+  none_there : (main k : ℕ) (names : List (List ℕ)) (fs : List core.Function) (j : ℕ) → slice_get fs j ≡ None → slice_get (functions_from value unused choice when unless main k names fs) j ≡ None
+  none_there main k names [] j e = refl
+  none_there main k [] (g ∷ fs) zero e = cc
+  none_there main k (name ∷ names) (g ∷ fs) zero e = cc
+  none_there main k [] (g ∷ fs) (suc j) e = none_there main (k + 1) [] fs j e
+  none_there main k (name ∷ names) (g ∷ fs) (suc j) e = none_there main (k + 1) names fs j e
+
+  -- and each of the code was made of one
+  pub came_from : (main : ℕ) (names : List (List ℕ)) (fs : List core.Function) (j : ℕ) (g : Function) → slice_get (functions_from value unused choice when unless main 0 names fs) j ≡ Some g
+      → (f : core.Function) × (slice_get fs j ≡ Some f) × ((name : List ℕ) × (built main (0 + j) name f ≡ g))
+  came_from main names fs j g at = by (slice_get fs j) refl
+    where
+      same : (a b : Function) → Some a ≡ Some b → a ≡ b
+      same a b e = cc
+
+      missing : None ≡ Some g → (f : core.Function) × (slice_get fs j ≡ Some f) × ((name : List ℕ) × (built main (0 + j) name f ≡ g))
+      missing e = cc
+
+      by : (o : Option core.Function) → slice_get fs j ≡ o → (f : core.Function) × (slice_get fs j ≡ Some f) × ((name : List ℕ) × (built main (0 + j) name f ≡ g))
+      by None e = missing (sym (none_there main 0 names fs j e) ∙ at)
+      by (Some f) e =
+          let r = function_there main 0 names fs j f e in
+          (f, e, (r.0, same (built main (0 + j) r.0 f) g (sym r.1 ∙ at)))
 
 -- ---- programs
 
