@@ -27,9 +27,10 @@ use Rattle.css_blocks.specs.Meaning.{Exits, means}
 use Rattle.css_blocks.specs.Layout.{Function, Program, routine_of}
 use Rattle.css_blocks.specs.Programs as blocks
 use Rattle.css_blocks.specs.Programs.{returned, gone, calls_of}
-use Rattle.css_gen.proofs.Values.{scalar_of-cell, bytes_of-cell}
+use Rattle.css_gen_expr.specs.Calls.{given, Agrees, width_of, shape_of, shape_of_part}
+use Rattle.css_gen_expr.proofs.Cells.{same_bytes}
+use Rattle.css_gen.proofs.Values.{scalar_of-cell}
 use Rattle.css_gen.specs.Statements.{pieces_of, exits_of}
-use Rattle.css_gen.specs.Functions.{width_of, shape_of, shape_of_part, function_of, opened, function_at, functions_from}
 
 -- ---- outcomes
 
@@ -37,25 +38,6 @@ use Rattle.css_gen.specs.Functions.{width_of, shape_of, shape_of_part, function_
 pub then_where : {A B : Type 0} (P : A → Type 0) (o : Outcome A) {f g : A → Tape → Outcome B} → Comes P o → ((a : A) (t : Tape) → P a → f a t ≡ g a t) → then_do o f ≡ then_do o g
 then_where P (Goes a t) h e = e a t h
 then_where P (Stops why t) h e = refl
-
--- ---- what calls of the core and calls of pieces have in common
-
--- the cell of a value that a call gives
-abbrev pub given : ℤ → Tape → Outcome (Option ℕ)
-given v t = Goes (Some (cell_of v)) t
-
-pub record Agrees (w : World) (fs : List core.Function) (call : Calling) (calls : meaning.Calls) : Type 0 where
-  -- what makes no task
-  pub plain : (k : ℕ) (f : core.Function) → slice_get fs k ≡ Some f → (vs : List ℤ) → length vs ≡ length f.parameters → (base line : ℕ) (t : Tape) → (is_none f.task || not (makes_tasks t)) ≡ true
-      → calls.call k (map cell_of vs) line t ≡ then_do (call k vs base line t) given
-  -- what is done behind what a task's windows are measured by
-  pub told : (k : ℕ) (vs : List ℤ) (base line : ℕ) → List Argument → Tape → Outcome ℤ
-  pub measured : (k : ℕ) (f : core.Function) (task : Task) → slice_get fs k ≡ Some f → f.task ≡ Some task → (vs : List ℤ) (base line : ℕ) (t : Tape) → makes_tasks t ≡ true
-      → call k vs base line t ≡ then_do (pointers w vs line task.parts vs t) (told k vs base line)
-  pub submits : (k : ℕ) (f : core.Function) (task : Task) → slice_get fs k ≡ Some f → f.task ≡ Some task → (vs : List ℤ) → length vs ≡ length f.parameters
-      → (ds : List ℕ) (base line : ℕ) (t : Tape)
-      → calls.submit k (map cell_of vs) ds base line t
-      ≡ then_do (told k vs base line (pointers_of (shape_of task).arguments (narrowed_to (map width_of f.parameters) (map cell_of vs)) ds) t) given
 
 -- ---- functions
 
@@ -74,7 +56,7 @@ module _ (w : World) where
   stores_mean place [] vs line t = refl
   stores_mean place (kind ∷ types) [] line t = refl
   stores_mean place (kind ∷ types) (v ∷ vs) line t =
-      ap (λ bs. then_do (ask w (Store (place % 2 ^ 32) bs) line t) (λ r t'. machine.stores w (place + 8) (map width_of types) (map cell_of vs) line t')) (bytes_of-cell kind v)
+      ap (λ bs. then_do (ask w (Store (place % 2 ^ 32) bs) line t) (λ r t'. machine.stores w (place + 8) (map width_of types) (map cell_of vs) line t')) (same_bytes kind v)
       ∙ behind (ask w (Store (place % 2 ^ 32) (bytes_of kind v)) line t) (stores_mean (place + 8) types vs line)
     where
       behind : (o : Outcome ℕ) → ((t : Tape) → machine.stores w (place + 8) (map width_of types) (map cell_of vs) line t ≡ source.stores w (place + 8) types vs line t)

@@ -30,9 +30,10 @@ use Rattle.css_blocks.specs.Layout.{Function, Program, routine_of, code_of}
 use Rattle.css_blocks.specs.Programs as blocks
 use Rattle.css_blocks.specs.Programs.{calls_of, run_of}
 use Rattle.css_gen.proofs.Values.{congruent-cell}
-use Rattle.css_gen.proofs.Functions.{Agrees, IsMade, halt_of, applied_means, agrees, then_where}
+use Rattle.css_gen.proofs.Functions.{IsMade, halt_of, applied_means, agrees, then_where}
 use Rattle.css_gen.specs.Statements.{pieces_of, exits_of}
-use Rattle.css_gen.specs.Functions.{width_of, shape_of, function_of, opened, function_at, functions_from, program_of}
+use Rattle.css_gen_expr.specs.Calls.{Agrees, width_of}
+use Rattle.css_gen.specs.Functions.{function_of, opened, function_at, functions_from, program_of}
 
 pub int_of-cell : (v : ℤ) → IsInRange Int v → int_of (cell_of v) ≡ v
 int_of-cell v h = converted-congruent Int (congruent_narrow 64 32 (lit≤ tt) (congruent-cell v)) ∙ converted-value Int v h
@@ -42,20 +43,20 @@ nat_same n = eq-eqb n (0 + n) (omega arith)
 
 -- ---- the functions of a program
 
-module _ (value unused : (line : ℕ) → Expression → List Piece) (choice : (line : ℕ) → Expression → (yes no : Piece) → List Piece) (when : (line : ℕ) → Expression → (yes : Piece) → List Piece) (unless : (line : ℕ) → Way → Expression → List Piece) where
+module _ (fs : List core.Function) where
   abbrev pub built : ℕ → ℕ → List ℕ → core.Function → Function
-  built = function_at value unused choice when unless
+  built = function_at fs
 
   pub made_at : (main k : ℕ) (name : List ℕ) (f : core.Function) → IsMade f (built main k name f)
   made_at main k name f = by (nat_eq main k)
     where
-      by : (b : Bool) → IsMade f (if b then opened value unused choice when unless f.line (function_of value unused choice when unless name f) else function_of value unused choice when unless name f)
+      by : (b : Bool) → IsMade f (if b then opened fs f.line (function_of fs name f) else function_of fs name f)
       by true = record { frame = refl; parameters = refl; task = refl; end = refl }
       by false = record { frame = refl; parameters = refl; task = refl; end = refl }
 
   -- each stands at its number, with some name
   pub function_there : (main k : ℕ) (names : List (List ℕ)) (fs : List core.Function) (j : ℕ) (f : core.Function) → slice_get fs j ≡ Some f
-      → (name : List ℕ) × (slice_get (functions_from value unused choice when unless main k names fs) j ≡ Some (built main (k + j) name f))
+      → (name : List ℕ) × (slice_get (functions_from fs main k names fs) j ≡ Some (built main (k + j) name f))
   function_there main k names [] j f e = cc
   function_there main k [] (g ∷ fs) zero f e = ([], ap (λ o. option_map (built main k []) o) e ∙ ap (λ x. Some (built main x [] f)) (omega arith))
   function_there main k (name ∷ names) (g ∷ fs) zero f e = (name, ap (λ o. option_map (built main k name) o) e ∙ ap (λ x. Some (built main x name f)) (omega arith))
@@ -66,7 +67,7 @@ module _ (value unused : (line : ℕ) → Expression → List Piece) (choice : (
       let r = function_there main (k + 1) names fs j f e in
       (r.0, r.1 ∙ ap (λ x. Some (built main x r.0 f)) (omega arith))
 
-  none_there : (main k : ℕ) (names : List (List ℕ)) (fs : List core.Function) (j : ℕ) → slice_get fs j ≡ None → slice_get (functions_from value unused choice when unless main k names fs) j ≡ None
+  none_there : (main k : ℕ) (names : List (List ℕ)) (fs : List core.Function) (j : ℕ) → slice_get fs j ≡ None → slice_get (functions_from fs main k names fs) j ≡ None
   none_there main k names [] j e = refl
   none_there main k [] (g ∷ fs) zero e = cc
   none_there main k (name ∷ names) (g ∷ fs) zero e = cc
@@ -74,7 +75,7 @@ module _ (value unused : (line : ℕ) → Expression → List Piece) (choice : (
   none_there main k (name ∷ names) (g ∷ fs) (suc j) e = none_there main (k + 1) names fs j e
 
   -- and each of the code was made of one
-  pub came_from : (main : ℕ) (names : List (List ℕ)) (fs : List core.Function) (j : ℕ) (g : Function) → slice_get (functions_from value unused choice when unless main 0 names fs) j ≡ Some g
+  pub came_from : (main : ℕ) (names : List (List ℕ)) (fs : List core.Function) (j : ℕ) (g : Function) → slice_get (functions_from fs main 0 names fs) j ≡ Some g
       → (f : core.Function) × (slice_get fs j ≡ Some f) × ((name : List ℕ) × (built main (0 + j) name f ≡ g))
   came_from main names fs j g at = by (slice_get fs j) refl
     where
@@ -136,9 +137,9 @@ module _ (w : World) (frame : ℕ) where
       leaves (Stops why t') = refl
   body_behind (Stops why t) = refl
 
-module _ (value unused : (line : ℕ) → Expression → List Piece) (choice : (line : ℕ) → Expression → (yes no : Piece) → List Piece) (when : (line : ℕ) → Expression → (yes : Piece) → List Piece) (unless : (line : ℕ) → Way → Expression → List Piece) (names : List (List ℕ)) (p : core.Program) (typed : IsTypedProgram p) where
+module _ (names : List (List ℕ)) (p : core.Program) (typed : IsTypedProgram p) where
   abbrev of_pieces : Program
-  of_pieces = program_of value unused choice when unless names p
+  of_pieces = program_of names p
 
   abbrev signatures : List Signature
   signatures = map signature p.functions
@@ -148,8 +149,8 @@ module _ (value unused : (line : ℕ) → Expression → List Piece) (choice : (
 
   pub made_of : (k : ℕ) (f : core.Function) → slice_get p.functions k ≡ Some f → (g : Function) × (slice_get of_pieces.functions k ≡ Some g) × IsMade f g
   made_of k f e =
-      let r = function_there value unused choice when unless p.main 0 names p.functions k f e in
-      (built value unused choice when unless p.main (0 + k) r.0 f, r.1, made_at value unused choice when unless p.main (0 + k) r.0 f)
+      let r = function_there p.functions p.main 0 names p.functions k f e in
+      (built p.functions p.main (0 + k) r.0 f, r.1, made_at p.functions p.main (0 + k) r.0 f)
 
   module _ (w : World)
       (runs : (n : ℕ) → Agrees w p.functions (source.calls w p.functions n) (calls_of w of_pieces.functions n) → (k : ℕ) (f : core.Function) (g : Function) → slice_get p.functions k ≡ Some f → slice_get of_pieces.functions k ≡ Some g
@@ -173,9 +174,9 @@ module _ (value unused : (line : ℕ) → Expression → List Piece) (choice : (
 
       entry_there : (f : core.Function) → slice_get p.functions p.main ≡ Some f → machine.entry_line (slice_get (code_of of_pieces).functions p.main) ≡ f.line
       entry_there f e =
-          let r = function_there value unused choice when unless p.main 0 names p.functions p.main f e in
+          let r = function_there p.functions p.main 0 names p.functions p.main f e in
           ap machine.entry_line (slice_get-map routine_of of_pieces.functions p.main ∙ ap (option_map routine_of) r.1)
-          ∙ ap (λ b. machine.entry_line (Some (routine_of (if b then opened value unused choice when unless f.line (function_of value unused choice when unless r.0 f) else function_of value unused choice when unless r.0 f)))) (nat_same p.main)
+          ∙ ap (λ b. machine.entry_line (Some (routine_of (if b then opened p.functions f.line (function_of p.functions r.0 f) else function_of p.functions r.0 f)))) (nat_same p.main)
 
       pub source_means : (n : ℕ) → blocks.source w of_pieces n ≡ then_do (source.source w n p) (λ v t. Goes (Some v) t)
       source_means n =

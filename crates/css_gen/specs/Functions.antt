@@ -1,34 +1,18 @@
 -- Which structured code functions and programs are.
-use Rattle.std.specs.Prelude.{ℕ, ◌+◌, ◌/◌, pos, List, [], ◌∷◌, map, nat_eq, Option, option_map, if◌then◌else◌}
-use Rattle.css_base.specs.declared.int_type.IntType.{IntType}
-use Rattle.css_num.specs.Types.{bits_of}
+use Rattle.std.specs.Prelude.{ℕ, ◌+◌, pos, List, [], ◌∷◌, map, nat_eq, option_map, if◌then◌else◌}
 use Rattle.css_core.specs.Core as core
-use Rattle.css_core.specs.Core.{Expression}
-use Rattle.css_core.specs.Typed.{count_of}
 use Rattle.css_isa.specs.declared.code.Op.TheVariants as ops
-use Rattle.css_isa.specs.declared.code.ArgShape.{ArgShape}
-use Rattle.css_isa.specs.declared.code.ArgShape.TheVariants as shapes
-use Rattle.css_isa.specs.Code.{Shape, Datum}
-use Rattle.css_blocks.specs.declared.part.Way.{Way}
-use Rattle.css_blocks.specs.Pieces.{Piece, Do, Then, row}
+use Rattle.css_isa.specs.Code.{Datum}
+use Rattle.css_blocks.specs.Pieces.{Do, Then, row}
 use Rattle.css_blocks.specs.Layout.{Function, Program}
+use Rattle.css_gen_expr.specs.Calls.{width_of, shape_of}
 use Rattle.css_gen.specs.Statements.{pieces_of}
-
--- the bytes of a parameter
-abbrev pub width_of : IntType → ℕ
-width_of t = bits_of t / 8
-
-abbrev pub shape_of_part : core.Part → ArgShape
-shape_of_part core.Scalar = shapes.Scalar
-shape_of_part (core.Window direction element is_strided dimensions) = shapes.Window direction element (count_of dimensions) is_strided
-
-abbrev pub shape_of : core.Task → Shape
-shape_of task = record { high = task.high; arguments = map shape_of_part task.parts }
 
 abbrev pub datum_of : core.Datum → Datum
 datum_of d = record { address = d.address; bytes = d.bytes }
 
-module _ (value unused : (line : ℕ) → Expression → List Piece) (choice : (line : ℕ) → Expression → (yes no : Piece) → List Piece) (when : (line : ℕ) → Expression → (yes : Piece) → List Piece) (unless : (line : ℕ) → Way → Expression → List Piece) where
+-- among these functions
+module _ (fs : List core.Function) where
   -- a name may be missing
   abbrev pub function_of : (name : List ℕ) → core.Function → Function
   function_of name f = record {
@@ -36,7 +20,7 @@ module _ (value unused : (line : ℕ) → Expression → List Piece) (choice : (
     frame = f.frame;
     parameters = map width_of f.parameters;
     task = option_map shape_of f.task;
-    body = pieces_of value unused choice when unless f.end f.body;
+    body = pieces_of fs f.end f.body;
     end = f.end;
   }
 
@@ -49,14 +33,14 @@ module _ (value unused : (line : ℕ) → Expression → List Piece) (choice : (
 
   abbrev pub functions_from : (main k : ℕ) → (names : List (List ℕ)) → List core.Function → List Function
   functions_from main k names [] = []
-  functions_from main k [] (f ∷ fs) = function_at main k [] f ∷ functions_from main (k + 1) [] fs
-  functions_from main k (name ∷ names) (f ∷ fs) = function_at main k name f ∷ functions_from main (k + 1) names fs
+  functions_from main k [] (f ∷ others) = function_at main k [] f ∷ functions_from main (k + 1) [] others
+  functions_from main k (name ∷ names) (f ∷ others) = function_at main k name f ∷ functions_from main (k + 1) names others
 
-  -- with the functions' names in order
-  abbrev pub program_of : (names : List (List ℕ)) → core.Program → Program
-  program_of names p = record {
-    globals_end = p.globals_end;
-    datums = map datum_of p.datums;
-    functions = functions_from p.main 0 names p.functions;
-    main = p.main;
-  }
+-- with the functions' names in order
+abbrev pub program_of : (names : List (List ℕ)) → core.Program → Program
+program_of names p = record {
+  globals_end = p.globals_end;
+  datums = map datum_of p.datums;
+  functions = functions_from p.functions p.main 0 names p.functions;
+  main = p.main;
+}

@@ -1,1 +1,15 @@
-pub mod Emitting
+pub mod Cells
+pub mod CellsExact
+pub mod CellsBits
+pub mod Ranges
+pub mod Operators
+pub mod Tests
+pub mod Memory
+pub mod Straight
+pub mod Arithmetic
+pub mod Choices
+pub mod Updates
+pub mod Arguments
+pub mod Whole
+pub mod Modeless
+pub mod Calls

@@ -103,15 +103,11 @@ put_code Tested = ops.Conv narrows.U8 ∷ ops.Dup 0 ∷ ops.Out conversions.Char
 put_code Low = ops.Conv narrows.U8 ∷ ops.Dup 0 ∷ ops.Out conversions.Char ∷ ops.Drop ∷ []
 put_code Unused = ops.Out conversions.Char ∷ ops.Drop ∷ []
 
--- Writes the pieces of a format, with the arguments that are left on the stack; the last of them is taken, the others are copied.
-abbrev pub shown : (left : ℕ) → machine.Conversion → List Op
-shown zero c = ops.Out c ∷ ops.Drop ∷ []
-shown (suc left) c = ops.Dup (suc left) ∷ ops.Out c ∷ ops.Drop ∷ []
-
+-- Writes the pieces of a format, with the arguments on the stack, of which so many are left.
 abbrev pub written : List core.Piece → (left : ℕ) → List Op
 written [] left = []
 written (Literal byte ∷ format) left = ops.Push (pos byte) ∷ ops.Out conversions.Char ∷ ops.Drop ∷ written format left
-written (Shown c ∷ format) (suc left) = shown left (conversion_of c) ++ written format left
+written (Shown c ∷ format) (suc left) = ops.Dup left ∷ ops.Out (conversion_of c) ∷ ops.Drop ∷ written format left
 written (Shown c ∷ format) zero = written format zero
 
 -- drops so many cells
@@ -135,7 +131,7 @@ abbrev pub print_code : Aim → List core.Piece → (arguments : ℕ) → List O
 print_code Used format n = ops.Push (pos 0) ∷ (summed format n ++ ops.Conv narrows.S32 ∷ sunk n)
 print_code Tested format n = ops.Push (pos 0) ∷ (summed format n ++ ops.Conv narrows.S32 ∷ sunk n)
 print_code Low format n = ops.Push (pos 0) ∷ (summed format n ++ ops.Conv narrows.S32 ∷ sunk n)
-print_code Unused format n = written format n ++ drops (n - 1)
+print_code Unused format n = written format n ++ drops n
 
 -- ---- expressions
 

@@ -4,4 +4,3 @@ pub mod Expressions
 pub mod Tests
 pub mod Calls
 pub mod Meaning
-pub mod Emitted

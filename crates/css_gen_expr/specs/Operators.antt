@@ -19,12 +19,6 @@ use Rattle.css_gen_expr.specs.Ranges.{contains}
 
 -- ---- what is taken of a value
 
-abbrev pub is_low : Aim → Bool
-is_low Used = false
-is_low Tested = false
-is_low Low = true
-is_low Unused = false
-
 -- the same, where a test takes the value
 abbrev pub plainly : Aim → Aim
 plainly Used = Used
@@ -195,8 +189,8 @@ is_bitwise binary.Xor = true
 is_bitwise binary.Or = true
 
 -- the low 32 bits of the operands are enough
-abbrev pub takes_low : Aim → BinOp → IntType → Bool
-takes_low aim op t = (is_sum op && (is_narrow t || is_low aim)) || (is_bitwise op && (is_wide t && is_low aim))
+abbrev pub takes_low : (is_low : Bool) → BinOp → IntType → Bool
+takes_low is_low op t = (is_sum op && (is_narrow t || is_low)) || (is_bitwise op && (is_wide t && is_low))
 
 -- the count of a shift, which an instruction takes modulo 32 or 64
 abbrev pub shift_width : IntType → ShiftWidth
@@ -238,7 +232,7 @@ operation binary.Or t = ops.Or ∷ []
 -- what an operation may leave out of the type's range
 abbrev pub wraps : BinOp → IntType → Bool
 wraps binary.Div t = has_sign t
-wraps op t = is_sum op
+wraps op t = is_sum op || (is_bitwise op && not (is_wide t))
 
 -- with the value's cell, or with its low 32 bits
 abbrev pub operated : (is_low : Bool) → BinOp → IntType → List Op
@@ -288,16 +282,16 @@ is_comparison binary.Or = false
 
 -- without a cell, only a division has to be done
 abbrev pub binary_takes : Aim → BinOp → IntType → Aim
-binary_takes Used op t = low_if (takes_low Used op t)
-binary_takes Tested op t = low_if (takes_low Used op t)
-binary_takes Low op t = low_if (takes_low Low op t)
+binary_takes Used op t = low_if (takes_low false op t)
+binary_takes Tested op t = low_if (takes_low false op t)
+binary_takes Low op t = low_if (takes_low true op t)
 binary_takes Unused op t = if is_division op then Used else Unused
 
 abbrev pub binary_code : Aim → BinOp → IntType → List Op
 binary_code Used op t = operated false op t
 binary_code Tested op t = operated false (straight op) t
 binary_code Low op t = operated true op t
-binary_code Unused op t = if is_division op then operation op t ++ ops.Drop ∷ [] else []
+binary_code Unused op t = if is_division op then operated true op t ++ ops.Drop ∷ [] else []
 
 -- ---- assignments
 
@@ -317,11 +311,11 @@ is_stored_low gives_old Low t = is_narrow t && (gives_old || is_wide t)
 is_stored_low gives_old Unused t = is_narrow t
 
 abbrev pub update_takes : (is_low : Bool) → BinOp → (within : IntType) → Aim
-update_takes is_low op within = low_if (takes_low (low_if is_low) op within)
+update_takes is_low op within = low_if (takes_low is_low op within)
 
 -- what was loaded as a value of the operator's type
 abbrev pub old_code : (is_low : Bool) → BinOp → (t within : IntType) → List Op
-old_code is_low op t within = if contains within t || (takes_low (low_if is_low) op within && is_wide within) then [] else narrowing within
+old_code is_low op t within = if contains within t || (takes_low is_low op within && is_wide within) then [] else narrowing within
 
 -- what is stored of the result
 abbrev pub new_code : (is_low : Bool) → BinOp → (t within : IntType) → List Op
