@@ -1,0 +1,4 @@
+pub mod Layers
+pub mod Sizes
+pub mod Lists
+pub mod Same
