@@ -13,31 +13,31 @@ pub pointed_once_more : (n : ℕ) (t : CType) → pointers_to (n + 1) t ≡ Poin
 pointed_once_more n t = let e : n + 1 ≡ suc n = omega arith in ap (λ m. pointers_to m t) e
 
 pub pointers-add : (m n : ℕ) (t : CType) → pointers_to m (pointers_to n t) ≡ pointers_to (m + n) t
-pointers-add zero n t = refl
+pointers-add zero n t = let e : n ≡ 0 + n = omega arith in ap (λ k. pointers_to k t) e
 pointers-add (suc m) n t = ap Pointer (pointers-add m n t) ∙ (let e : suc (m + n) ≡ suc m + n = omega arith in ap (λ k. pointers_to k t) e)
 
 -- a pointer
-pub ctype-pointer : (lists : Lists) (t : FlatType) → 0 < t.pointers → ctype lists t ≡ Pointer (ctype lists (record t { pointers = t.pointers - 1 }))
+pub ctype_pointer : (lists : Lists) (t : FlatType) → 0 < t.pointers → ctype lists t ≡ Pointer (ctype lists (record t { pointers = t.pointers - 1 }))
 unfolding ctype
-ctype-pointer lists t some = pointed t.pointers (arrays_of (list_at lists t.lengths) (element t)) some
+ctype_pointer lists t some = pointed t.pointers (arrays_of (list_at lists t.lengths) (element t)) some
 
 -- an array
-pub ctype-array : (lists : Lists) (t : FlatType) (count : ℕ) (rest : _) → t.pointers ≡ 0 → list_at lists t.lengths ≡ count ∷ list_at lists rest
+pub ctype_array : (lists : Lists) (t : FlatType) (count : ℕ) (rest : _) → t.pointers ≡ 0 → list_at lists t.lengths ≡ count ∷ list_at lists rest
     → ctype lists t ≡ array_of count (ctype lists (record t { lengths = rest }))
 unfolding ctype
-ctype-array lists t count rest none is =
+ctype_array lists t count rest none is =
     ap (λ n. pointers_to n (arrays_of (list_at lists t.lengths) (element t))) none
     ∙ ap (λ ls. arrays_of ls (element t)) is
     ∙ ap (λ n. array_of count (pointers_to n (arrays_of (list_at lists rest) (element t)))) (sym none)
 
 -- an element
-pub ctype-element : (lists : Lists) (t : FlatType) → t.pointers ≡ 0 → list_at lists t.lengths ≡ [] → ctype lists t ≡ element t
+pub ctype_element : (lists : Lists) (t : FlatType) → t.pointers ≡ 0 → list_at lists t.lengths ≡ [] → ctype lists t ≡ element t
 unfolding ctype
-ctype-element lists t none is =
+ctype_element lists t none is =
     ap (λ n. pointers_to n (arrays_of (list_at lists t.lengths) (element t))) none ∙ ap (λ ls. arrays_of ls (element t)) is
 
 -- an element that is a pointer
-pub element-pointer : (lists : Lists) (t : FlatType) → t.pointers ≡ 0 → list_at lists t.lengths ≡ [] → 0 < t.stars
+pub element_pointer : (lists : Lists) (t : FlatType) → t.pointers ≡ 0 → list_at lists t.lengths ≡ [] → 0 < t.stars
     → ctype lists t ≡ Pointer (ctype lists (record t { stars = t.stars - 1 }))
-element-pointer lists t none is some =
-    ctype-element lists t none is ∙ pointed t.stars _ some ∙ ap Pointer (sym (ctype-element lists (record t { stars = t.stars - 1 }) none is))
+element_pointer lists t none is some =
+    ctype_element lists t none is ∙ pointed t.stars _ some ∙ ap Pointer (sym (ctype_element lists (record t { stars = t.stars - 1 }) none is))

@@ -2,3 +2,4 @@ pub mod Layers
 pub mod Sizes
 pub mod Lists
 pub mod Same
+pub mod Growing

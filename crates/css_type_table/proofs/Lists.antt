@@ -1,12 +1,18 @@
 -- Rows and their lists.
-use Rattle.std.proofs.Common.{◌≡◌, ◌⊎◌, inl, inr, ℕ, zero, suc, ◌+◌, ◌*◌, ◌<◌, ◌≤◌, [], ◌∷◌, ◌++◌, List, length, get_or, slice_get, Option, Some, None, refl, sym, ap, subst, ◌∙◌, arith, length-append, append_assoc}
+use Rattle.std.proofs.Common.{◌≡◌, ◌==◌, ◌&&◌, Bool, true, false, true≢false, if◌then◌else◌, ◌⊎◌, inl, inr, ℕ, zero, suc, ◌+◌, ◌*◌, ◌<◌, ◌≤◌, [], ◌∷◌, ◌++◌, List, length, get_or, slice_get, Option, Some, None, refl, sym, ap, subst, ◌∙◌, arith, length-append, append_assoc}
 use Rattle.std.proofs.Math.ListN.{get_or-append}
 use Rattle.std.proofs.Math.Seq.{get_or-append_seam}
-use Rattle.std.proofs.lemmas.Bool.{cases_lt}
-use Rattle.std.proofs.lemmas.Option.{slice_get-get_or}
+use Rattle.std.proofs.lemmas.Bool.{cases_lt, and_parts, and_from}
+use Rattle.std.proofs.lemmas.Bool.Decides.{Decides-eqb}
+use Rattle.std.proofs.Math.Dec.{eqb}
+use Rattle.std.specs.Option.{option_eq}
+use Rattle.std.proofs.lemmas.Option.{slice_get-get_or, slice_get_within, get_or_from_slice_get}
+use Rattle.std.specs.List.{list_any}
+use Rattle.std.proofs.lemmas.List.Folds.{list_any_at}
+use Rattle.indexmap.specs.IndexSet.{insert_key}
 use Rattle.css_types.specs.Types.{biggest}
 use Rattle.css_type_table.specs.declared.rows.Row.{Row}
-use Rattle.css_type_table.specs.Lists.{Lists, list_at, IsRow, elements_of, with_rows, lists_of, StandsAt, AreRows}
+use Rattle.css_type_table.specs.Lists.{Lists, list_at, IsRow, elements_of, with_rows, lists_of, StandsAt, IsOnce, AreRows}
 
 abbrev listed : Lists → Row → List ℕ
 listed lists r = r.count ∷ list_at lists r.rest
@@ -78,8 +84,12 @@ same_head m n ls ks e = cc
 same_tail : (m n : ℕ) (ls ks : List ℕ) → m ∷ ls ≡ n ∷ ks → ls ≡ ks
 same_tail m n ls ks e = cc
 
+abbrev made : ℕ → Option ℕ → ℕ → Row
+made count rest elements = record { count = count; rest = rest; elements = elements }
+
 same_row : (q r : Row) → q.count ≡ r.count → q.rest ≡ r.rest → q.elements ≡ r.elements → q ≡ r
-same_row q r counts rests elements = cc
+same_row q r counts rests elements =
+    ap (λ n. made n q.rest q.elements) counts ∙ ap (λ o. made r.count o q.elements) rests ∙ ap (made r.count r.rest) elements
 
 module _ (rows : List Row) (r : Row) (are : AreRows rows) (room : length rows < 4294967295) (rest : IsRow (lists_of rows) r.rest)
     (elements : r.elements ≡ r.count * elements_of (list_at (lists_of rows) r.rest)) (some : 0 < r.elements) (few : r.elements ≤ biggest)
@@ -146,3 +156,77 @@ module _ (rows : List Row) (r : Row) (are : AreRows rows) (room : length rows < 
         ]
       ];
   }
+
+pub lists_once : (rows : List Row) → AreRows rows → IsOnce (lists_of rows)
+lists_once rows are = λ i j wi wj same. are.once i j (omega (arith, wi, length-lists_of rows)) (omega (arith, wj, length-lists_of rows)) same
+
+-- ---- a row that is inserted
+
+module _ (eq : Row → Row → Bool) (same : (x y : Row) → eq x y ≡ true → x ≡ y) (self : (x : Row) → eq x x ≡ true) where
+  fresh_from : (rows : List Row) (r : Row) → list_any (eq r) rows ≡ false → (place : ℕ) → slice_get rows place ≡ Some r → ⊥
+  fresh_from rows r none place at =
+      let within : place < length rows = slice_get_within rows place r at in
+      let is : get_or rows place r ≡ r = get_or_from_slice_get rows place r r at in
+      let yes : list_any (eq r) rows ≡ true = list_any_at (eq r) rows place r within (ap (eq r) is ∙ self r) in
+      true≢false (sym yes ∙ none)
+
+  module _ (rows : List Row) (r : Row) (are : AreRows rows) (room : length rows < 4294967295) (rest : IsRow (lists_of rows) r.rest)
+      (elements : r.elements ≡ r.count * elements_of (list_at (lists_of rows) r.rest)) (some : 0 < r.elements) (few : r.elements ≤ biggest) where
+    pub AreRows-insert : AreRows (insert_key eq rows r)
+    AreRows-insert = by (list_any (eq r) rows) refl where
+      by : (b : Bool) → list_any (eq r) rows ≡ b → AreRows (if b then rows else rows ++ r ∷ [])
+      by true e = are
+      by false e = AreRows-push rows r are room rest elements some few (fresh_from rows r e)
+
+    -- what stood stands still
+    pub insert_kept : (i : ℕ) → i < length rows → get_or (lists_of (insert_key eq rows r)) i [] ≡ get_or (lists_of rows) i []
+    insert_kept i within = by (list_any (eq r) rows) where
+      by : (b : Bool) → get_or (lists_of (if b then rows else rows ++ r ∷ [])) i [] ≡ get_or (lists_of rows) i []
+      by true = refl
+      by false = ap (λ ls. get_or ls i []) (lists_of-push rows r) ∙ get_or-append (lists_of rows) (listed (lists_of rows) r ∷ []) [] i (omega (arith, within, length-lists_of rows))
+
+    pub insert_longer : length rows ≤ length (insert_key eq rows r)
+    insert_longer = by (list_any (eq r) rows) where
+      by : (b : Bool) → length rows ≤ length (if b then rows else rows ++ r ∷ [])
+      by true = omega arith
+      by false = omega (arith, length-append rows (r ∷ []))
+
+    list_at_insert : list_at (lists_of (insert_key eq rows r)) r.rest ≡ list_at (lists_of rows) r.rest
+    list_at_insert = by r.rest rest where
+      by : (o : Option ℕ) → IsRow (lists_of rows) o → list_at (lists_of (insert_key eq rows r)) o ≡ list_at (lists_of rows) o
+      by None is = refl
+      by (Some i) is = insert_kept i (omega (arith, is, length-lists_of rows))
+
+    -- the row that is found has its list
+    pub insert_list : (place : ℕ) (k : Row) → slice_get (insert_key eq rows r) place ≡ Some k → eq r k ≡ true
+        → get_or (lists_of (insert_key eq rows r)) place [] ≡ r.count ∷ list_at (lists_of rows) r.rest
+    insert_list place k at e =
+        let is : r ≡ k = same r k e in
+        let s : StandsAt (lists_of (insert_key eq rows r)) place r = AreRows-insert.stand place r (at ∙ ap Some (sym is)) in
+        s.list ∙ ap (λ ls. r.count ∷ ls) list_at_insert
+
+-- ---- the test of equal rows
+
+abbrev pub row_eq : Row → Row → Bool
+row_eq a b = (a.count == b.count) && (option_eq eqb a.rest b.rest && (a.elements == b.elements))
+
+same_option : (a b : Option ℕ) → option_eq eqb a b ≡ true → a ≡ b
+same_option None None e = refl
+same_option None (Some y) e = absurd (cc)
+same_option (Some x) None e = absurd (cc)
+same_option (Some x) (Some y) e = ap Some ((Decides-eqb x y).0 e)
+
+self_option : (a : Option ℕ) → option_eq eqb a a ≡ true
+self_option None = refl
+self_option (Some x) = (Decides-eqb x x).1 refl
+
+pub row_same : (a b : Row) → row_eq a b ≡ true → a ≡ b
+row_same a b e =
+    let p = and_parts (a.count == b.count) (option_eq eqb a.rest b.rest && (a.elements == b.elements)) e in
+    let q = and_parts (option_eq eqb a.rest b.rest) (a.elements == b.elements) p.1 in
+    same_row a b ((Decides-eqb a.count b.count).0 p.0) (same_option a.rest b.rest q.0) ((Decides-eqb a.elements b.elements).0 q.1)
+
+pub row_self : (a : Row) → row_eq a a ≡ true
+row_self a =
+    and_from (a.count == a.count) (option_eq eqb a.rest a.rest && (a.elements == a.elements)) ((Decides-eqb a.count a.count).1 refl)
+    (and_from (option_eq eqb a.rest a.rest) (a.elements == a.elements) (self_option a.rest) ((Decides-eqb a.elements a.elements).1 refl))

@@ -1,6 +1,7 @@
 -- When two types are one.
 use Rattle.std.proofs.Common.{◌≡◌, ℕ, zero, suc, ◌+◌, Bool, true, false, ◌==◌, ◌&&◌, nat_eq, bytes_eq, ◌<◌, [], ◌∷◌, List, length, get_or, refl, sym, ap, ap₂, ◌∙◌, arith}
 use Rattle.std.proofs.Math.Bool.{and_assoc}
+use Rattle.std.proofs.Math.Dec.{eqb-zero-suc, eqb-suc-zero}
 use Rattle.std.proofs.lemmas.Bool.Decides.{same_from_decides, Decides-eqb}
 use Rattle.std.proofs.lemmas.Slice.Eq.{bytes_eq-Decides}
 use Rattle.css_types.specs.Types.{CType, Void, Integer, Pointer, Array, is_same, is_pointer, is_array, arrays_of}
@@ -13,17 +14,24 @@ use Rattle.css_type_table.specs.Flat.{pointers_to, element, ctype}
 use Rattle.css_type_table.proofs.Layers.{pointers-add}
 
 sucs : (m n : ℕ) → (m == n) ≡ (suc m == suc n)
-sucs m n = refl
+sucs m n = same_from_decides (m == n) (suc m == suc n) (Decides-eqb m n)
+    (λ h. let e = (Decides-eqb (suc m) (suc n)).0 h in omega (arith, e), λ h. (Decides-eqb (suc m) (suc n)).1 (ap suc h))
+
+zero_suc : (n : ℕ) (b : Bool) → false ≡ ((0 == suc n) && b)
+zero_suc n b = sym (ap (λ x. x && b) (eqb-zero-suc n))
+
+suc_zero : (n : ℕ) (b : Bool) → false ≡ ((suc n == 0) && b)
+suc_zero n b = sym (ap (λ x. x && b) (eqb-suc-zero n))
 
 same-pointers : (m n : ℕ) (x y : CType) → is_pointer x ≡ false → is_pointer y ≡ false → is_same (pointers_to m x) (pointers_to n y) ≡ ((m == n) && is_same x y)
 same-pointers zero zero x y px py = refl
-same-pointers zero (suc n) Void y px py = refl
-same-pointers zero (suc n) (Integer t) y px py = refl
-same-pointers zero (suc n) (Array count bytes t) y px py = refl
+same-pointers zero (suc n) Void y px py = zero_suc n (is_same Void y)
+same-pointers zero (suc n) (Integer t) y px py = zero_suc n (is_same (Integer t) y)
+same-pointers zero (suc n) (Array count bytes t) y px py = zero_suc n (is_same (Array count bytes t) y)
 same-pointers zero (suc n) (Pointer t) y px py = absurd (cc)
-same-pointers (suc m) zero x Void px py = refl
-same-pointers (suc m) zero x (Integer t) px py = refl
-same-pointers (suc m) zero x (Array count bytes t) px py = refl
+same-pointers (suc m) zero x Void px py = suc_zero m (is_same x Void)
+same-pointers (suc m) zero x (Integer t) px py = suc_zero m (is_same x (Integer t))
+same-pointers (suc m) zero x (Array count bytes t) px py = suc_zero m (is_same x (Array count bytes t))
 same-pointers (suc m) zero x (Pointer t) px py = absurd (cc)
 same-pointers (suc m) (suc n) x y px py = same-pointers m n x y px py ∙ ap (λ b. b && is_same x y) (sucs m n)
 
@@ -73,7 +81,7 @@ base_array : (l : ℕ) (ls : List ℕ) (t : CType) (b : Base) → is_same (base 
 base_array l ls t bases.Void = refl
 base_array l ls t (bases.Integer s) = refl
 
-some_list : (ls : List ℕ) → 0 < length ls → (l : ℕ) × (rest : List ℕ) × (ls ≡ l ∷ rest)
+pub some_list : (ls : List ℕ) → 0 < length ls → (l : ℕ) × (rest : List ℕ) × (ls ≡ l ∷ rest)
 some_list [] none = absurd (omega arith)
 some_list (l ∷ rest) some = (l, rest, refl)
 
@@ -138,3 +146,11 @@ module _ (lists : Lists) (a b : FlatType) where
       ∙ same-pointers (a.pointers + a.stars) b.pointers (base a.base) (arrays_of (l ∷ ls) (element b)) (base-pointer a.base) refl
       ∙ ap (λ x. (a.pointers + a.stars == b.pointers) && x) (base_array l ls (element b) a.base)
       ∙ and-false (a.pointers + a.stars == b.pointers)
+
+  pub same-row_first : (i : ℕ) → 0 < length (get_or lists i []) → list_at lists a.lengths ≡ get_or lists i [] → list_at lists b.lengths ≡ []
+      → is_same (ctype lists a) (ctype lists b) ≡ false
+  same-row_first i some na nb = let p = some_list (get_or lists i []) some in same-first p.0 p.1 (na ∙ p.2) nb
+
+  pub same-row_second : (i : ℕ) → 0 < length (get_or lists i []) → list_at lists a.lengths ≡ [] → list_at lists b.lengths ≡ get_or lists i []
+      → is_same (ctype lists a) (ctype lists b) ≡ false
+  same-row_second i some na nb = let p = some_list (get_or lists i []) some in same-second p.0 p.1 na (nb ∙ p.2)

@@ -19,11 +19,11 @@ pub size-pointers : (n : ℕ) (t : CType) → 0 < n → size_of (pointers_to n t
 size-pointers zero t some = absurd (omega arith)
 size-pointers (suc n) t some = refl
 
-pub size-pointer : (lists : Lists) (t : FlatType) → 0 < t.pointers → size_of (ctype lists t) ≡ 4
+pub size_pointer : (lists : Lists) (t : FlatType) → 0 < t.pointers → size_of (ctype lists t) ≡ 4
 unfolding ctype
-size-pointer lists t some = size-pointers t.pointers _ some
+size_pointer lists t some = size-pointers t.pointers _ some
 
-pub size-array : (lists : Lists) (t : FlatType) → t.pointers ≡ 0 → size_of (ctype lists t) ≡ elements_of (list_at lists t.lengths) * size_of (element t)
+pub size_array : (lists : Lists) (t : FlatType) → t.pointers ≡ 0 → size_of (ctype lists t) ≡ elements_of (list_at lists t.lengths) * size_of (element t)
 unfolding ctype
-size-array lists t none =
+size_array lists t none =
     ap (λ n. size_of (pointers_to n (arrays_of (list_at lists t.lengths) (element t)))) none ∙ size-arrays (list_at lists t.lengths) (element t)

@@ -34,6 +34,7 @@ pub enum Layer {
 
 impl CType {
     /// Void, or an integer type.
+    #[tactic(auto, unfolding(crate::specs::Flat::ctype))]
     pub fn of_base(base: Base) -> CType
         ensures value { (lists : Lists) → ctype lists result ≡ shapes.base base }
         ensures within { (lists : Lists) → IsOf lists result }
@@ -56,6 +57,7 @@ impl CType {
         CType::of_base(Base::Integer(kind))
     }
 
+    #[tactic(auto, using(crate::proofs::Layers::pointed_once_more), unfolding(crate::specs::Flat::ctype))]
     /// A pointer to the type, where its pointers can be counted.
     pub fn pointer(self) -> Result<CType, NoMemory>
         ensures value { IfOk result (λ p. (lists : Lists) → ctype lists p ≡ types.Pointer (ctype lists self)) }

@@ -1,5 +1,5 @@
 //! Types with their table.
-ghost use Rattle.std.specs.Prelude.{◌≡◌, ◌<◌, ◌≤◌, ◌+◌, [], ◌∷◌, length, get_or, false, map, IfOk, IfSome, IfNone};
+ghost use Rattle.std.specs.Prelude.{◌≡◌, ◌<◌, ◌≤◌, ◌+◌, ◌==◌, ◌&&◌, [], ◌∷◌, length, get_or, map, IfOk, IfSome, IfNone};
 ghost use Rattle.css_types.specs.Types as types;
 ghost use Rattle.css_types.specs.Types.{biggest};
 ghost use Rattle.css_type_table.specs.declared.ctype.CType.{CType as FlatType};
@@ -45,6 +45,7 @@ impl TypeTable {
     }
 
     /// The outermost part of a type.
+    #[tactic(auto, using(crate::proofs::Layers::ctype_pointer, crate::proofs::Layers::ctype_array))]
     pub fn layer(&self, t: CType) -> Layer
         ensures value { ctype self.now t ≡ layered self.now result }
         ensures within { IsOf self.now t → IsLayerOf self.now result }
@@ -91,8 +92,10 @@ impl TypeTable {
     }
 
     /// The bytes of an object of the type.
+    #[tactic(auto, using(crate::proofs::Sizes::size_pointer, crate::proofs::Sizes::size_array))]
     pub fn size_of(&self, t: CType) -> u64
-        ensures { result ≡ types.size_of (ctype self.now t) }
+        ensures size { result ≡ types.size_of (ctype self.now t) }
+        ensures few { result ≤ 8589934592 }
     {
         if t.pointers > 0 {
             return 4;
@@ -158,13 +161,8 @@ impl TypeTable {
         ensures { result ≡ types.is_same (ctype self.now a) (ctype self.now b) }
     {
         match (self.number(a), self.number(b)) {
-            (None, None) => pointers(a) == pointers(b) && is_same_base(a.base, b.base),
-            (Some(i), Some(j)) => {
-                a.pointers == b.pointers
-                    && i == j
-                    && a.stars == b.stars
-                    && is_same_base(a.base, b.base)
-            }
+            (None, None) => is_same_plain(a, b),
+            (Some(i), Some(j)) => is_same_listed(i, j, a, b),
             _ => false,
         }
     }
@@ -175,7 +173,7 @@ impl TypeTable {
         ensures within { IsRow self.now result }
         ensures some { IfSome result (λ n. 0 < length (get_or self.now n [])) }
         ensures none { IfNone result (list_at self.now t.lengths ≡ []) }
-        ensures once { IsOnce self.now }
+        ensures once { IfSome result (λ _. IsOnce self.now) }
     {
         let number = t.lengths?;
         let _row = self.rows.at(number)?;
@@ -186,15 +184,17 @@ impl TypeTable {
     pub fn are_same(&self, all: &[CType], others: &[CType]) -> bool
         ensures { result ≡ types.are_same (map (ctype self.now) all.now) (map (ctype self.now) others.now) }
     {
-        if all.len() != others.len() {
-            return false;
-        }
-        for (a, b) in all.iter().zip(others) {
+        let mut rest = others;
+        for a in all {
+            let Some((b, more)) = rest.split_first() else {
+                return false;
+            };
             if !self.is_same(*a, *b) {
                 return false;
             }
+            rest = more;
         }
-        true
+        rest.is_empty()
     }
 }
 
@@ -204,18 +204,22 @@ impl TypeTable {
     /// An array of so many elements, where it isn't too big. What stood for a type stands for it still, also after an error.
     pub fn array_of(&mut self, count: u64, of: CType) -> Result<Option<CType>, NoMemory>
         requires plain { IsPlain of }
-        requires object { types.is_void (ctype self.old of) ≡ false }
+        requires object { 0 < types.size_of (ctype self.old of) }
         requires some { 0 < count }
         ensures array { IfOk result (λ r. IfSome r (λ t. ctype self.new t ≡ types.array_of count (ctype self.old of))) }
         ensures within { IfOk result (λ r. IfSome r (IsOf self.new)) }
         ensures plain { IfOk result (λ r. IfSome r IsPlain) }
+        ensures object { IfOk result (λ r. IfSome r (λ t. 0 < types.size_of (ctype self.new t))) }
         ensures small { IfOk result (λ r. IfSome r (λ t. types.size_of (ctype self.new t) ≤ biggest)) }
         ensures too_big { IfOk result (λ r. IfNone r (biggest < types.size_of (types.array_of count (ctype self.old of)))) }
         ensures kept { (t : FlatType) → IsOf self.old t → ctype self.new t ≡ ctype self.old t }
         ensures still { (t : FlatType) → IsOf self.old t → IsOf self.new t }
     {
-        let size = self.size_of(of);
-        if count > BIGGEST || count * size > BIGGEST {
+        if count > BIGGEST {
+            return Ok(None);
+        }
+        let size = count * self.size_of(of);
+        if size > BIGGEST {
             return Ok(None);
         }
         let row = Row {
@@ -234,6 +238,7 @@ impl TypeTable {
 // ---- elements
 
 /// The outermost part of an element.
+#[tactic(auto, using(crate::proofs::Layers::element_pointer, crate::proofs::Layers::ctype_element))]
 fn element_layer(t: CType) -> Layer
     requires { t.pointers ≡ 0 }
     ensures value { (lists : Lists) → list_at lists t.lengths ≡ [] → ctype lists t ≡ layered lists result }
@@ -270,6 +275,20 @@ fn pointers(t: CType) -> u64
     ensures { result ≡ t.pointers + t.stars }
 {
     u64::from(t.pointers) + u64::from(t.stars)
+}
+
+/// Whether two types that are no arrays are one.
+fn is_same_plain(a: CType, b: CType) -> bool
+    ensures { result ≡ ((a.pointers + a.stars == b.pointers + b.stars) && types.is_same (shapes.base a.base) (shapes.base b.base)) }
+{
+    pointers(a) == pointers(b) && is_same_base(a.base, b.base)
+}
+
+/// Whether two types with these rows are one.
+fn is_same_listed(i: u32, j: u32, a: CType, b: CType) -> bool
+    ensures { result ≡ ((a.pointers == b.pointers) && ((i == j) && ((a.stars == b.stars) && types.is_same (shapes.base a.base) (shapes.base b.base)))) }
+{
+    a.pointers == b.pointers && i == j && a.stars == b.stars && is_same_base(a.base, b.base)
 }
 
 fn is_same_base(a: Base, b: Base) -> bool
