@@ -62,8 +62,8 @@ pub product_some : (m n : ℕ) → 0 < m → 0 < n → 0 < m * n
 product_some m n sm sn = omega (arith, times_some m n sn)
 
 -- a list that is longer is another
-pub too_long : (f : FlatType → CType) (all : List FlatType) (i : ℕ) (rest : List FlatType) → i < length all → rest ≡ [] → are_same (map f (drop i all)) (map f rest) ≡ false
+pub too_long : (f : FlatType → CType) (all : List FlatType) (i : ℕ) (rest : List FlatType) → i < length all → length rest ≡ 0 → are_same (map f (drop i all)) (map f rest) ≡ false
 too_long f [] i rest within none = absurd (omega arith)
-too_long f (t ∷ all) i (s ∷ rest) within none = absurd (cc)
+too_long f (t ∷ all) i (s ∷ rest) within none = absurd (omega arith)
 too_long f (t ∷ all) zero [] within none = refl
 too_long f (t ∷ all) (suc i) [] within none = too_long f all i [] (omega arith) none

@@ -142,19 +142,19 @@ module _ (rows : List Row) (r : Row) (are : AreRows rows) (room : length rows < 
       | inr h ↦ subst (λ p. StandsAt new p q) (sym h.0) (subst (λ x. StandsAt new (length rows) x) h.1 last_stands)
     ];
     once = λ i j wi wj same.
-      let total : length (rows ++ r ∷ []) ≡ length rows + 1 = length-append rows (r ∷ []) in
-      elim (cases_lt i (length rows)) [
-      | inl bi ↦ elim (cases_lt j (length rows)) [
-        | inl bj ↦ are.once i j bi bj (sym (before i bi) ∙ same ∙ before j bj)
-        | inr pj ↦ let ej : j ≡ length rows = omega (arith, total, wj, pj) in
-            absurd (new_list i bi (sym (before i bi) ∙ same ∙ ap (λ n. get_or new n []) ej ∙ last))
-        ]
-      | inr pi ↦ let ei : i ≡ length rows = omega (arith, total, wi, pi) in
-        elim (cases_lt j (length rows)) [
-        | inl bj ↦ absurd (new_list j bj (sym (before j bj) ∙ sym same ∙ ap (λ n. get_or new n []) ei ∙ last))
-        | inr pj ↦ omega (arith, total, wi, wj, pi, pj)
-        ]
-      ];
+        let total : length (rows ++ r ∷ []) ≡ length rows + 1 = length-append rows (r ∷ []) in
+        elim (cases_lt i (length rows)) [
+          | inl bi ↦ elim (cases_lt j (length rows)) [
+            | inl bj ↦ are.once i j bi bj (sym (before i bi) ∙ same ∙ before j bj)
+            | inr pj ↦ let ej : j ≡ length rows = omega (arith, total, wj, pj) in
+                absurd (new_list i bi (sym (before i bi) ∙ same ∙ ap (λ n. get_or new n []) ej ∙ last))
+          ]
+          | inr pi ↦ let ei : i ≡ length rows = omega (arith, total, wi, pi) in
+              elim (cases_lt j (length rows)) [
+                | inl bj ↦ absurd (new_list j bj (sym (before j bj) ∙ sym same ∙ ap (λ n. get_or new n []) ei ∙ last))
+                | inr pj ↦ omega (arith, total, wi, wj, pi, pj)
+              ]
+        ];
   }
 
 pub lists_once : (rows : List Row) → AreRows rows → IsOnce (lists_of rows)

@@ -26,10 +26,7 @@ pub enum Layer {
     Void,
     Integer(IntType),
     Pointer(CType),
-    Array {
-        count: u32,
-        of: CType,
-    },
+    Array { count: u32, of: CType },
 }
 
 impl CType {

@@ -18,9 +18,9 @@ returns-in-Some-Some c =
     let ej = c.in-Some-Some.is-1 in
     c.is_same_listed.ensures
     ∙ sym (same-rows lists c.args.a c.args.b i j (at_some (λ _. IsOnce lists) c.number.result i ei c.number.ensures.once)
-      (subst (IsRow lists) ei c.number.ensures.within) (subst (IsRow lists) ej c.number-2.ensures.within)
-      (at_some (λ n. 0 < length (get_or lists n [])) c.number.result i ei c.number.ensures.some) (at_some (λ n. 0 < length (get_or lists n [])) c.number-2.result j ej c.number-2.ensures.some)
-      (sym c.number.ensures.row ∙ ap (list_at lists) ei) (sym c.number-2.ensures.row ∙ ap (list_at lists) ej))
+    (subst (IsRow lists) ei c.number.ensures.within) (subst (IsRow lists) ej c.number-2.ensures.within)
+    (at_some (λ n. 0 < length (get_or lists n [])) c.number.result i ei c.number.ensures.some) (at_some (λ n. 0 < length (get_or lists n [])) c.number-2.result j ej c.number-2.ensures.some)
+    (sym c.number.ensures.row ∙ ap (list_at lists) ei) (sym c.number-2.ensures.row ∙ ap (list_at lists) ej))
 
 pub returns-in_default : goal.returns-in_default
 returns-in_default c =

@@ -1,0 +1,8 @@
+use Rattle.std.proofs.Common.{◌≡◌, [], drop, length}
+use Rattle.css_operands.proofs.Conversions.{on}
+use Rattle.css_operands.proofs.arguments.converted_arguments.Given as goal
+
+abbrev pub invariant-loop-argument : goal.invariant-loop-argument
+invariant-loop-argument l =
+    on l.table l.line l.all.items l.rest (drop (length l.yielded) l.fn.arguments.items)
+    ≡ on l.table l.line [] l.fn.types l.fn.arguments.items
