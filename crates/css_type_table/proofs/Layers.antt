@@ -1,5 +1,5 @@
 -- Types by their outermost parts.
-use Rattle.std.proofs.Common.{◌≡◌, ℕ, zero, suc, ◌+◌, ◌-◌, ◌<◌, [], ◌∷◌, List, IfOk, refl, sym, ap, subst, ◌∙◌, arith}
+use Rattle.std.proofs.Common.{◌≡◌, ℕ, zero, suc, ◌+◌, ◌-◌, ◌<◌, [], ◌∷◌, sym, ap, ◌∙◌, arith}
 use Rattle.css_types.specs.Types.{CType, Pointer, arrays_of, array_of}
 use Rattle.css_type_table.specs.declared.ctype.CType.{CType as FlatType}
 use Rattle.css_type_table.specs.Lists.{Lists, list_at}

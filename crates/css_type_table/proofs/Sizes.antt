@@ -1,5 +1,5 @@
 -- Sizes of arrays.
-use Rattle.std.proofs.Common.{◌≡◌, ℕ, zero, suc, ◌+◌, ◌*◌, ◌<◌, ◌≤◌, [], ◌∷◌, List, refl, sym, ap, ◌∙◌, arith}
+use Rattle.std.proofs.Common.{◌≡◌, ℕ, zero, suc, ◌*◌, ◌<◌, [], ◌∷◌, List, refl, ap, ◌∙◌, arith}
 use Rattle.css_types.specs.Types.{CType, size_of, arrays_of}
 use Rattle.css_type_table.specs.declared.ctype.CType.{CType as FlatType}
 use Rattle.css_type_table.specs.Lists.{Lists, list_at, elements_of}

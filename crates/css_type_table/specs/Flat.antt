@@ -1,5 +1,5 @@
 -- The type of C that a flat type is, by the lists of a table.
-use Rattle.std.specs.Prelude.{◌≡◌, ℕ, zero, suc, None}
+use Rattle.std.specs.Prelude.{◌≡◌, ℕ, zero, suc}
 use Rattle.css_types.specs.Types.{CType, Void, Integer, Pointer, arrays_of, array_of}
 use Rattle.css_types.specs.Shapes.{base}
 use Rattle.css_type_table.specs.Lists.{Lists, list_at, IsRow}

@@ -1,6 +1,5 @@
-use Rattle.std.proofs.Common.{◌≡◌, ◌<◌, ◌≤◌, ◌*◌, ℕ, [], ◌∷◌, length, get_or, slice_get, Some, refl, sym, ap, subst, ◌∙◌, arith}
+use Rattle.std.proofs.Common.{◌≡◌, ◌<◌, ◌*◌, [], ◌∷◌, length, get_or, slice_get, sym, ap, subst, ◌∙◌, arith}
 use Rattle.std.proofs.lemmas.Option.{slice_get_within}
-use Rattle.css_types.specs.Types.{biggest}
 use Rattle.css_type_table.specs.Lists.{Lists, AreRows, IsRow, elements_of, list_at, lists_of}
 use Rattle.css_type_table.proofs.Lists.{row_eq, row_same, row_self, AreRows-insert, insert_kept, insert_longer, insert_list, length-lists_of}
 use Rattle.css_type_table.proofs.rows.Rows.number_of.Goals as goal

@@ -1,4 +1,4 @@
-use Rattle.std.proofs.Common.{◌≡◌, sym, ◌∙◌}
+use Rattle.std.proofs.Common.{sym, ◌∙◌}
 use Rattle.css_type_table.specs.Flat.{ctype}
 use Rattle.css_type_table.proofs.Growing.{too_long}
 use Rattle.css_type_table.proofs.table.TypeTable.are_same.Goals as goal

@@ -1,6 +1,6 @@
-use Rattle.std.proofs.Common.{◌≡◌, ℕ, ◌*◌, ◌<◌, ◌≤◌, ◌∷◌, Some, refl, sym, ap, subst, ◌∙◌, arith}
+use Rattle.std.proofs.Common.{◌≡◌, ℕ, ◌*◌, ◌<◌, ◌≤◌, ◌∷◌, sym, ap, subst, ◌∙◌, arith}
 use Rattle.std.proofs.Math.Nat.{mul-le-mul}
-use Rattle.css_types.specs.Types.{CType, size_of, array_of, biggest}
+use Rattle.css_types.specs.Types.{CType, size_of, biggest}
 use Rattle.css_type_table.specs.declared.ctype.CType.{CType as FlatType}
 use Rattle.css_type_table.specs.Lists.{Lists, list_at}
 use Rattle.css_type_table.specs.Flat.{ctype, IsOf}

@@ -1,4 +1,4 @@
-use Rattle.std.proofs.Common.{◌≡◌, ◌<◌, [], length, get_or, refl, sym, ap, subst, ◌∙◌}
+use Rattle.std.proofs.Common.{◌<◌, [], length, get_or, sym, ap, subst, ◌∙◌}
 use Rattle.css_type_table.specs.Lists.{list_at, IsRow, IsOnce}
 use Rattle.css_type_table.proofs.Growing.{at_none, at_some}
 use Rattle.css_type_table.proofs.Same.{same-plain, same-rows, same-row_first, same-row_second}
