@@ -66,12 +66,7 @@ fn on_integers(
 // ---- pointers
 
 /// A pointer that was moved, to elements of this type.
-fn moved(
-    table: &TypeTable,
-    line: Line,
-    to: CType,
-    e: Box<Expression>,
-) -> Result<Operand, Refusal>
+fn moved(table: &TypeTable, line: Line, to: CType, e: Box<Expression>) -> Result<Operand, Refusal>
     ensures ok { IfOk result (λ x. rules.moved line (ctype table.now to) (expression e.value) ≡ Ok (operand table.now x)) }
     ensures broken { (f : Fault) → IsErrOf result (Refusal.Broken f) → rules.moved line (ctype table.now to) (expression e.value) ≡ Err f }
 {

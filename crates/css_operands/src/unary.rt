@@ -39,12 +39,7 @@ fn on_integer(
 }
 
 /// `!` of a value.
-fn negation(
-    alloc: Global,
-    table: &TypeTable,
-    line: Line,
-    a: Operand,
-) -> Result<Operand, Refusal>
+fn negation(alloc: Global, table: &TypeTable, line: Line, a: Operand) -> Result<Operand, Refusal>
     ensures ok { IfOk result (λ x. rules.negation line (operand table.now a) ≡ Ok (operand table.now x)) }
     ensures broken { (f : Fault) → IsErrOf result (Refusal.Broken f) → rules.negation line (operand table.now a) ≡ Err f }
 {
@@ -117,10 +112,28 @@ pub fn unary_operand(
             let v = value_of(alloc, table, a)?;
             pointed(table, line, v.t, v.e)
         }
-        UnaryOperator::Plus => on_integer(alloc, table, line, UnOp::Plus, value_of(alloc, table, a)?),
-        UnaryOperator::Minus => on_integer(alloc, table, line, UnOp::Minus, value_of(alloc, table, a)?),
+        UnaryOperator::Plus => on_integer(
+            alloc,
+            table,
+            line,
+            UnOp::Plus,
+            value_of(alloc, table, a)?,
+        ),
+        UnaryOperator::Minus => on_integer(
+            alloc,
+            table,
+            line,
+            UnOp::Minus,
+            value_of(alloc, table, a)?,
+        ),
         UnaryOperator::Complement => {
-            on_integer(alloc, table, line, UnOp::Complement, value_of(alloc, table, a)?)
+            on_integer(
+                alloc,
+                table,
+                line,
+                UnOp::Complement,
+                value_of(alloc, table, a)?,
+            )
         }
         UnaryOperator::Not => negation(alloc, table, line, value_of(alloc, table, a)?),
     }
@@ -133,7 +146,13 @@ fn cast_constant(table: &TypeTable, t: CType, k: Constant) -> Constant
 {
     match table.layer(t) {
         Layer::Integer(kind) => constant_in(kind, k),
-        Layer::Pointer(to) => { if table.is_void(to) { k } else { Constant::Varies } }
+        Layer::Pointer(to) => {
+            if table.is_void(to) {
+                k
+            } else {
+                Constant::Varies
+            }
+        }
         _ => Constant::Varies,
     }
 }

@@ -122,9 +122,7 @@ pub(crate) fn is_convertible(table: &TypeTable, to: CType, a: &Operand) -> bool
 {
     match table.layer(to) {
         Layer::Integer(_) => table.is_integer(a.t),
-        Layer::Pointer(to) => {
-            is_null(table, a.t, a.constant) || is_pointer_for(table, to, a.t)
-        }
+        Layer::Pointer(to) => { is_null(table, a.t, a.constant) || is_pointer_for(table, to, a.t) }
         _ => false,
     }
 }

@@ -285,11 +285,7 @@ pub(crate) fn updated(
 // ---- pointers to elements of so many bytes
 
 /// An index in bytes.
-pub(crate) fn scaled(
-    alloc: Global,
-    size: u64,
-    i: Typed,
-) -> Result<Box<Expression>, NoMemory>
+pub(crate) fn scaled(alloc: Global, size: u64, i: Typed) -> Result<Box<Expression>, NoMemory>
     ensures { IfOk result (λ x. expression x.value ≡ core.scaled size (typed i)) }
 {
     let index = convert_to(alloc, IntType::UInt, i.e)?;
