@@ -5,7 +5,7 @@ use Rattle.css_core.specs.Shapes.{expression}
 use Rattle.css_types.specs.Shapes.{constant}
 use Rattle.css_types.specs.Types.{core_type, is_void}
 use Rattle.css_types.specs.Constants.{Constant}
-use Rattle.css_types.specs.Operands.{Operand, IsValue, integer_constant, cast_constant}
+use Rattle.css_types.specs.Operands.{IsValue, integer_constant, cast_constant}
 use Rattle.css_type_table.specs.Flat.{ctype}
 use Rattle.css_operands.specs.Shapes.{operand}
 use Rattle.css_operands.proofs.Casts.{cast_to_object}

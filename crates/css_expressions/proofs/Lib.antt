@@ -1,0 +1,5 @@
+pub mod Rows
+pub mod Trees
+pub mod Arguments
+pub mod Shown
+pub mod Literals
