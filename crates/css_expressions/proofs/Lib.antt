@@ -2,4 +2,5 @@ pub mod Rows
 pub mod Trees
 pub mod Arguments
 pub mod Shown
-pub mod Literals
+pub mod FirstLiterals
+pub mod Meanings
