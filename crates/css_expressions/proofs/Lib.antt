@@ -4,3 +4,5 @@ pub mod Arguments
 pub mod Shown
 pub mod FirstLiterals
 pub mod Meanings
+pub mod Lines
+pub mod Counted

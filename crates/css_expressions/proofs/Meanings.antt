@@ -10,6 +10,8 @@ use Rattle.css_types.specs.Expressions.{meaning_of, named, operand_of, call_by, 
 use Rattle.css_type_table.specs.Lists.{Lists}
 use Rattle.css_type_table.specs.Flat.{ctype}
 use Rattle.css_type_table.specs.declared.ctype.CType.{CType as FlatType}
+use Rattle.css_scopes.specs.declared.library.Library.{Library}
+use Rattle.css_scopes.specs.Libraries.{library}
 use Rattle.css_scopes.specs.declared.meaning.Meaning.{Meaning}
 use Rattle.css_scopes.specs.Scopes.{Binding, meaning_of as meaning_in}
 use Rattle.css_scopes.proofs.Shown.{meaning-scope_as}
@@ -61,3 +63,8 @@ module _ (lists : Lists) (scope : List (Binding (Meaning FlatType))) (line : ℕ
     pub calls_meaning : (m : Meaning FlatType) → types.library_of name ≡ None → meaning_in scope name ≡ Some m
         → operand_of (seen lists scope) line (Call line name arguments) ≡ after (values_in (seen lists scope) line arguments) (called line (meant_by lists m))
     calls_meaning m other is = calls_other other ∙ ap (λ j. after j (λ m. after (values_in (seen lists scope) line arguments) (called line m))) (meaning_found m is)
+
+-- the library has a name in code where it has it
+pub some_mapped : (o : Option Library) → is_some (option_map library o) ≡ is_some o
+some_mapped None = refl
+some_mapped (Some f) = refl

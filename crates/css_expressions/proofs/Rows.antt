@@ -26,4 +26,4 @@ expression_call f all =
 pub expression_print : (format : Vec Piece Global) (all : Vec code.Expression Global) → expression (code.Print format all) ≡ Print (map piece format.items) (listed all.items)
 expression_print format all =
     let row = printed_row (code.Print format all) in
-    ap (Print (map piece format.items)) (of_row row.0 row.1 ∙ ap listed (code.items_hidden-the_row-Expression-1 all))
+    ap (Print (map piece format.items)) (of_row row.0 row.1 ∙ ap listed (code.items_hidden-the_row-Expression-0 all))

@@ -180,9 +180,9 @@ pub(crate) fn library_call(
     literal: Option<&[u8]>,
     arguments: Vec<Operand>,
 ) -> Result<Operand, Refusal>
-    ensures ok { IfOk result (λ x. rules.library_call line (library f) (option_map (λ b. b.now) literal) (operands_of table.now arguments.items) ≡ Ok (operand table.now x)) }
+    ensures ok { IfOk result (λ x. rules.library_call line (library f) (option_map (λ b. b.now) literal.entry) (operands_of table.now arguments.items) ≡ Ok (operand table.now x)) }
     ensures broken { (fault : Fault) → IsErrOf result (Refusal.Broken fault)
-        → rules.library_call line (library f) (option_map (λ b. b.now) literal) (operands_of table.now arguments.items) ≡ Err fault }
+        → rules.library_call line (library f) (option_map (λ b. b.now) literal.entry) (operands_of table.now arguments.items) ≡ Err fault }
 {
     match (f, literal) {
         (Library::Puts, Some(bytes)) => puts(alloc, line, bytes, arguments),
