@@ -1,5 +1,5 @@
 -- The arguments of a call, one by one.
-use Rattle.std.proofs.Common.{◌≡◌, ℕ, ◌+◌, ◌<◌, ◌≤◌, List, [], ◌∷◌, ◌++◌, length, map, drop, get_or, Ok, Err, refl, sym, ap, ◌∙◌, append_assoc}
+use Rattle.std.proofs.Common.{◌≡◌, ℕ, zero, suc, true, ◌+◌, ◌<◌, ◌≤◌, List, [], ◌∷◌, ◌++◌, length, map, drop, get_or, Ok, Err, refl, sym, ap, ◌∙◌, append_assoc, arith}
 use Rattle.std.proofs.lemmas.List.{drop_more, at_drop_all, append-nil, map-append}
 use Rattle.css_base.specs.declared.static_fault.StaticFault.{StaticFault}
 use Rattle.css_tree.specs.declared.expression.Expression.{Expression}
@@ -10,6 +10,7 @@ use Rattle.css_types.specs.Judged.{Judged, after}
 use Rattle.css_types.specs.Operands.{Operand}
 use Rattle.css_operands.specs.Shapes.{operand}
 use Rattle.css_types.specs.Scopes.{Scope}
+use Rattle.css_expressions.specs.Calls.{left_by}
 use Rattle.css_types.specs.Expressions.{operand_of, values_in, as_value}
 
 module _ (lists : Lists) where
@@ -45,3 +46,9 @@ module _ (lists : Lists) where
 
   pub all_valued : (scope : Scope) (line : ℕ) (all : List Expression) (i : ℕ) (done : List code.Operand) → length all ≤ i → on scope line done (drop i all) ≡ Ok (map (operand lists) done)
   all_valued scope line all i done past = at_drop_all (on scope line done) all i past ∙ ap Ok (append-nil (map (operand lists) done))
+
+-- the first, once it is passed over
+pub passed_over : (all : List Expression) (i : ℕ) → i < length all → left_by true (drop i all) ≡ drop (i + 1) all
+passed_over [] i within = absurd (omega arith)
+passed_over (e ∷ all) zero within = refl
+passed_over (e ∷ all) (suc i) within = passed_over all i (omega arith)

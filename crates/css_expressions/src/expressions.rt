@@ -9,7 +9,7 @@ ghost use Rattle.css_types.specs.Judged.{after};
 ghost use Rattle.css_scopes.specs.Libraries.{library};
 ghost use Rattle.css_operands.specs.Shapes.{operand, operands_of};
 ghost use Rattle.css_expressions.specs.Seen.{seen};
-ghost use Rattle.css_expressions.specs.Calls.{library_called};
+ghost use Rattle.css_expressions.specs.Calls.{library_called, left_by};
 
 use crate::calls::{called, named};
 use crate::library::library_call;
@@ -195,7 +195,7 @@ fn call(
     let Some(meaning) = scope.meaning(name) else {
         return Err(broken(StaticName::Undeclared, line));
     };
-    let values = values_in(alloc, table, scope, line, arguments)?;
+    let values = values_in(alloc, table, scope, line, arguments, false)?;
     called(alloc, table, line, meaning, values)
 }
 
@@ -214,18 +214,18 @@ fn call_of_library(
         → library_called (seen table.now scope.now) line (library f) (trees.listed arguments.now) ≡ Err fault }
 {
     match literal_for(f, arguments) {
-        Some((bytes, others)) => {
-            let values = values_in(alloc, table, scope, line, others)?;
+        Some(bytes) => {
+            let values = values_in(alloc, table, scope, line, arguments, true)?;
             library_call(alloc, table, line, f, Some(bytes), values)
         }
         None => {
-            let values = values_in(alloc, table, scope, line, arguments)?;
+            let values = values_in(alloc, table, scope, line, arguments, false)?;
             library_call(alloc, table, line, f, None, values)
         }
     }
 }
 
-/// The values of a call's arguments.
+/// The values of a call's arguments, where asked for without the first.
 #[cycle(expressions)]
 fn values_in(
     alloc: Global,
@@ -233,12 +233,19 @@ fn values_in(
     scope: &Scope<'_, Meaning<CType>>,
     line: Line,
     arguments: &[Expression],
+    behind_first: bool,
 ) -> Result<Vec<Operand>, Refusal>
-    ensures ok { IfOk result (λ all. rules.values_in (seen table.now scope.now) line (trees.listed arguments.now) ≡ Ok (operands_of table.now all.items)) }
-    ensures broken { (f : Fault) → IsErrOf result (Refusal.Broken f) → rules.values_in (seen table.now scope.now) line (trees.listed arguments.now) ≡ Err f }
+    ensures ok { IfOk result (λ all. rules.values_in (seen table.now scope.now) line (trees.listed (left_by behind_first arguments.now)) ≡ Ok (operands_of table.now all.items)) }
+    ensures broken { (f : Fault) → IsErrOf result (Refusal.Broken f)
+        → rules.values_in (seen table.now scope.now) line (trees.listed (left_by behind_first arguments.now)) ≡ Err f }
 {
     let mut all = Vec::new(alloc);
+    let mut passes = behind_first;
     for argument in arguments {
+        if passes {
+            passes = false;
+            continue;
+        }
         let a = value_in(alloc, table, scope, line, argument)?;
         add(&mut all, a)?;
     }
