@@ -51,4 +51,5 @@ module _ (lists : Lists) where
 pub passed_over : (all : List Expression) (i : ℕ) → i < length all → left_by true (drop i all) ≡ drop (i + 1) all
 passed_over [] i within = absurd (omega arith)
 passed_over (e ∷ all) zero within = refl
-passed_over (e ∷ all) (suc i) within = passed_over all i (omega arith)
+passed_over (e ∷ all) (suc i) within =
+    passed_over all i (omega arith) ∙ (let k : suc (i + 1) ≡ suc i + 1 = omega arith in ap (λ n. drop n (e ∷ all)) k)

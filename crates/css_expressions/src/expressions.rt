@@ -109,9 +109,7 @@ pub fn operand_of(
             let p = operand_of(alloc, table, scope, line, operand)?;
             stepped(alloc, table, line, Gives::Old, BinOp::Sub, p)
         }
-        Expression::Cast { to, operand, .. } => {
-            cast_of(alloc, table, scope, line, to, operand)
-        }
+        Expression::Cast { to, operand, .. } => { cast_of(alloc, table, scope, line, to, operand) }
         Expression::SizeofType { of, .. } => size_of_type(alloc, table, line, of),
         Expression::SizeofExpression { operand, .. } => {
             let a = operand_of(alloc, table, scope, line, operand)?;
@@ -121,7 +119,14 @@ pub fn operand_of(
             name,
             arguments,
             ..
-        } => call(alloc, table, scope, line, name.as_slice(), arguments.as_slice()),
+        } => call(
+            alloc,
+            table,
+            scope,
+            line,
+            name.as_slice(),
+            arguments.as_slice(),
+        ),
     }
 }
 

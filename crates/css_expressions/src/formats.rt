@@ -124,7 +124,11 @@ pub(crate) fn written(
 }
 
 /// The expression that prints arguments in a format.
-pub(crate) fn printed(alloc: Global, format: Vec<Piece>, arguments: Vec<Expression>) -> Result<Box<Expression>, NoMemory>
+pub(crate) fn printed(
+    alloc: Global,
+    format: Vec<Piece>,
+    arguments: Vec<Expression>,
+) -> Result<Box<Expression>, NoMemory>
     ensures { IfOk result (λ e. expression e.value ≡ core.Print (map piece format.items) (listed arguments.items)) }
 {
     Ok(Box::new(alloc, Expression::Print { format, arguments })?)

@@ -57,7 +57,7 @@ pub call-returns-in_err-values-clause-broken : goal.call-returns-in_err-values-c
 call-returns-in_err-values-clause-broken t c = λ f why.
     calls_meaning c.args.table.now c.args.scope.now c.args.line c.args.name.now (trees.listed c.args.arguments.now) c.in-Some-meaning.meaning.now (sym c.in_default.ensures) (sym c.in-Some-meaning.ensures)
     ∙ ap (λ j. after j (called c.args.line (meant_by c.args.table.now c.in-Some-meaning.meaning.now)))
-      (c.in_err-values.ensures.broken f (passed c.from_residual.result c.in_err-values.field-0.0 f c.from_residual.ensures.1 why))
+    (c.in_err-values.ensures.broken f (passed c.from_residual.result c.in_err-values.field-0.0 f c.from_residual.ensures.1 why))
 
 pub call-returns-clause-ok : goal.call-returns-clause-ok
 call-returns-clause-ok t c =

@@ -19,7 +19,7 @@ loop-argument-preserved c =
     ap (λ m. on c.args.table.now c.args.line c.add.new.all.items c.in-Some-next_conversion.others.now (drop m c.args.arguments.items)) (length_push c.loop-argument.yielded c.in-Some.argument)
     ∙ ap (λ done. on c.args.table.now c.args.line done c.in-Some-next_conversion.others.now (drop (n + 1) c.args.arguments.items)) c.in_ok-add.ensures.ok
     ∙ one_shown c.args.table.now c.args.line c.loop-argument.all.items c.loop-argument.rest.now c.in-Some-next_conversion.others.now c.in-Some-next_conversion.kind
-      (c.in-Some-next_conversion.ensures.found c.args.line) c.args.arguments.items n c.in-Some.argument t.0 t.1 c.promoted.result fits c.promoted.ensures
+    (c.in-Some-next_conversion.ensures.found c.args.line) c.args.arguments.items n c.in-Some.argument t.0 t.1 c.promoted.result fits c.promoted.ensures
     ∙ c.loop-argument.invariant
 
 pub returns-in-None-next_conversion-clause-ok : goal.returns-in-None-next_conversion-clause-ok
@@ -31,4 +31,4 @@ returns-in-None-next_conversion-clause-ok c =
     let many : length yielded ≡ length c.args.arguments.items = ap length (sym (map-id yielded) ∙ end.0) in
     sym (on-none c.args.table.now c.args.line c.args.format.now c.args.arguments.items) ∙ sym c.loop-argument.invariant
     ∙ all_shown c.args.table.now c.args.line c.loop-argument.all.items c.loop-argument.rest.now c.args.arguments.items (length yielded)
-      (c.in-None-next_conversion.ensures.none c.args.line) (omega (arith, many))
+    (c.in-None-next_conversion.ensures.none c.args.line) (omega (arith, many))
