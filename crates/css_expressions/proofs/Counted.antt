@@ -1,11 +1,10 @@
 -- Arguments of the library's calls.
-use Rattle.std.proofs.Common.{◌≡◌, ℕ, suc, ◌+◌, ◌<◌, List, [], ◌∷◌, ◌++◌, length, map, Ok, Err, Some, None, Option, refl, sym, ap, ◌∙◌, arith, length-append}
-use Rattle.css_base.specs.declared.static_fault.StaticFault.{StaticFault}
+use Rattle.std.proofs.Common.{◌≡◌, ℕ, List, [], ◌∷◌, ◌++◌, length, Some, None, refl, arith}
 use Rattle.css_base.specs.declared.static_fault.StaticName.TheVariants.{TypeMismatch}
 use Rattle.css_core.specs.Core.{Expression}
 use Rattle.css_types.specs.Types.{CType}
-use Rattle.css_types.specs.Scopes.{Library, Getchar, Putchar, Puts, Malloc, Free, Printf}
-use Rattle.css_types.specs.Judged.{Judged, broken}
+use Rattle.css_types.specs.Scopes.{Getchar, Puts}
+use Rattle.css_types.specs.Judged.{broken}
 use Rattle.css_types.specs.Operands.{Operand}
 use Rattle.css_types.specs.Formats.{with_one, library_call}
 use Rattle.css_type_table.specs.Lists.{Lists}

@@ -1,5 +1,5 @@
 -- Literals that stand first.
-use Rattle.std.proofs.Common.{◌≡◌, ℕ, List, true, false, Bool, Option, Some, None, sym, ap, refl, ◌∙◌}
+use Rattle.std.proofs.Common.{◌≡◌, ℕ, List, true, false, Bool, Option, Some, None, ap, refl, ◌∙◌}
 use Rattle.css_tree.specs.Syntax.{Expressions}
 use Rattle.css_types.specs.Scopes.{Scope, Library}
 use Rattle.css_types.specs.Judged.{Judged, after}

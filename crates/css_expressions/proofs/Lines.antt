@@ -1,5 +1,5 @@
 -- The pieces of a line that `puts` writes.
-use Rattle.std.proofs.Common.{◌≡◌, ℕ, ◌+◌, ◌<◌, ◌≤◌, List, [], ◌∷◌, ◌++◌, length, map, drop, get_or, refl, sym, ap, ◌∙◌, append_assoc}
+use Rattle.std.proofs.Common.{◌≡◌, ℕ, ◌+◌, ◌<◌, ◌≤◌, List, [], ◌∷◌, ◌++◌, length, map, drop, get_or, sym, ap, ◌∙◌, append_assoc}
 use Rattle.std.proofs.lemmas.List.{drop_more, at_drop_all, map-append}
 use Rattle.css_core.specs.declared.expression.Piece.{Piece}
 use Rattle.css_core.specs.declared.expression.Piece.TheVariants as code

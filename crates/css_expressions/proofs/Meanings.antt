@@ -1,11 +1,11 @@
 -- What names mean in a scope of the code.
-use Rattle.std.proofs.Common.{◌≡◌, ℕ, List, Bool, true, false, is_some, Option, Some, None, Ok, Err, sym, ap, refl, ◌∙◌, if◌then◌else◌}
+use Rattle.std.proofs.Common.{◌≡◌, ℕ, List, Bool, true, false, is_some, Option, Some, None, Ok, ap, refl, ◌∙◌, if◌then◌else◌}
 use Rattle.std.specs.Option.{option_map}
 use Rattle.css_base.specs.declared.static_fault.StaticName.TheVariants.{Undeclared, TypeMismatch}
 use Rattle.css_tree.specs.Syntax.{Call, Expressions}
 use Rattle.css_types.specs.Scopes as types
-use Rattle.css_types.specs.Judged.{Judged, broken, after, expected}
-use Rattle.css_types.specs.Operands.{Operand, meant, called}
+use Rattle.css_types.specs.Judged.{broken, after, expected}
+use Rattle.css_types.specs.Operands.{meant, called}
 use Rattle.css_types.specs.Expressions.{meaning_of, named, operand_of, call_by, literal_of, values_in, values_behind}
 use Rattle.css_type_table.specs.Lists.{Lists}
 use Rattle.css_type_table.specs.Flat.{ctype}

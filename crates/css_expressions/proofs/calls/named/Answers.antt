@@ -1,4 +1,4 @@
-use Rattle.std.proofs.Common.{◌≡◌, Bool, false, is_some, Option, Some, None, Ok, Err, IfOk, refl, sym, ap, subst, ◌∙◌}
+use Rattle.std.proofs.Common.{◌≡◌, false, is_some, Ok, Err, IfOk, sym, ap, subst, ◌∙◌}
 use Rattle.css_base.specs.declared.static_fault.StaticName.TheVariants.{Undeclared}
 use Rattle.css_types.specs.Scopes as types
 use Rattle.css_operands.specs.Shapes.{operand}

@@ -1,7 +1,6 @@
-use Rattle.std.proofs.Common.{◌≡◌, ◌+◌, Ok, Err, IfOk, None, Some, drop, sym, ap, subst, ◌∙◌}
+use Rattle.std.proofs.Common.{◌≡◌, Ok, Err, IfOk, sym, ap, subst, ◌∙◌}
 use Rattle.css_base.specs.declared.static_fault.StaticName.TheVariants.{Undeclared}
 use Rattle.css_tree.specs.Shapes as trees
-use Rattle.css_types.specs.Scopes as types
 use Rattle.css_types.specs.Judged.{after}
 use Rattle.css_types.specs.Operands.{called}
 use Rattle.css_types.specs.Expressions.{operand_of}
@@ -10,7 +9,6 @@ use Rattle.css_operands.proofs.Conversions.{passed}
 use Rattle.css_expressions.specs.Seen.{seen, meant_by}
 use Rattle.css_expressions.proofs.Meanings.{calls_undeclared, calls_meaning}
 use Rattle.css_expressions.proofs.Trees.{call_is, cast_read}
-use Rattle.css_expressions.proofs.Arguments.{on, valued, all_valued}
 use Rattle.css_expressions.proofs.expressions.+expressions.Goals as goal
 
 pub operand_of-returns-in-Call-clause-ok : goal.operand_of-returns-in-Call-clause-ok

@@ -1,7 +1,6 @@
 use Rattle.std.proofs.Common.{◌≡◌, Err, subst}
-use Rattle.css_base.specs.declared.int_type.IntType.TheVariants.{UInt}
 use Rattle.css_core.specs.Core.{Allocate}
-use Rattle.css_types.specs.Types.{CType, Integer, Pointer, Void}
+use Rattle.css_types.specs.Types.{CType, Pointer, Void}
 use Rattle.css_types.specs.Operands.{value}
 use Rattle.css_types.specs.Formats.{with_one}
 use Rattle.css_operands.specs.Shapes.{operands_of}
