@@ -63,6 +63,9 @@ pub(crate) fn made_scene(alloc: Global) -> Result<Scene, NoMemory> {
     let int = CType::integer(IntType::Int);
     let char = CType::integer(IntType::UChar);
     let void = CType::of_base(Base::Void);
+    let ints = int.pointer()?;
+    let chars = char.pointer()?;
+    let anything = void.pointer()?;
     let row = array(&mut table, 3, int)?;
     let rows = array(&mut table, 2, row)?;
     function(alloc, &mut scope, b"f", Some(5), &[int, char], int)?;
@@ -75,9 +78,9 @@ pub(crate) fn made_scene(alloc: Global) -> Result<Scene, NoMemory> {
     local(&mut scope, b"c", char, 16)?;
     local(&mut scope, b"s", CType::integer(IntType::Short), 24)?;
     local(&mut scope, b"w", CType::integer(IntType::LongLong), 32)?;
-    local(&mut scope, b"p", int.pointer()?, 40)?;
-    local(&mut scope, b"q", char.pointer()?, 48)?;
-    local(&mut scope, b"v", void.pointer()?, 56)?;
+    local(&mut scope, b"p", ints, 40)?;
+    local(&mut scope, b"q", chars, 48)?;
+    local(&mut scope, b"v", anything, 56)?;
     local(&mut scope, b"a", row, 64)?;
     scope.declare(b"n", 1, Meaning::Parameter { t: int, k: 1 })?;
     Ok(Scene { table, scope })

@@ -6,27 +6,24 @@ use css_type_table::{CType, Layer, TypeTable};
 use css_types::Constant;
 use std::alloc::AllocError;
 
-fn write_type(
-    out: &mut String,
-    table: &TypeTable,
-    t: CType,
-    levels: u32,
-) -> Result<(), AllocError> {
-    if levels == 0 {
-        return out.push_str("..");
-    }
-    match table.layer(t) {
-        Layer::Void => out.push_str("Void"),
-        Layer::Integer(kind) => write!(out, "{kind:?}"),
-        Layer::Pointer(to) => {
-            out.push_str("*")?;
-            write_type(out, table, to, levels - 1)
-        }
-        Layer::Array { count, of } => {
-            write!(out, "[{count}]")?;
-            write_type(out, table, of, levels - 1)
+/// Writes a type of at most ten parts, the outermost first.
+fn write_type(out: &mut String, table: &TypeTable, t: CType) -> Result<(), AllocError> {
+    let mut t = t;
+    for _ in 0..10 {
+        match table.layer(t) {
+            Layer::Void => return out.push_str("Void"),
+            Layer::Integer(kind) => return write!(out, "{kind:?}"),
+            Layer::Pointer(to) => {
+                out.push_str("*")?;
+                t = to;
+            }
+            Layer::Array { count, of } => {
+                write!(out, "[{count}]")?;
+                t = of;
+            }
         }
     }
+    out.push_str("..")
 }
 
 fn write_piece(out: &mut String, piece: Piece) -> Result<(), AllocError> {
@@ -162,7 +159,7 @@ pub(crate) fn write_operand(
     table: &TypeTable,
     a: &Operand,
 ) -> Result<(), AllocError> {
-    write_type(out, table, a.t, 10)?;
+    write_type(out, table, a.t)?;
     match a.form {
         Form::Value => {}
         Form::Place => out.push_str(" place")?,
