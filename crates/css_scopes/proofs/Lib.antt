@@ -1,0 +1,5 @@
+pub mod Keys
+pub mod Growing
+pub mod Tables
+pub mod Leaving
+pub mod Shown
