@@ -125,3 +125,7 @@ module _ {M : Type 0} where
   pub stacked_on-older : (bs all : List (Entry M)) (b : Entry M) → all ≡ bs ++ b ∷ [] → stacked_on [] bs ≡ older (stacked_on [] all)
   stacked_on-older bs all b added = sym (ap (λ l. older (stacked_on [] l)) added ∙ ap older (stacked_on-last [] bs b))
 
+
+  pub length-stacked_on : (before : List (Binding M)) (bs : List (Entry M)) → length (stacked_on before bs) ≡ length before + length bs
+  length-stacked_on before [] = omega arith
+  length-stacked_on before (b ∷ bs) = let rest = length-stacked_on (binding b ∷ before) bs in omega (arith, rest)

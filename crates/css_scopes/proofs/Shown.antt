@@ -1,11 +1,12 @@
 -- Scopes over any type of types show the static rules the same.
-use Rattle.std.proofs.Common.{◌≡◌, ℕ, ◌<◌, ◌≤◌, Bool, true, false, ◌||◌, ◌==◌, nat_le, List, [], ◌∷◌, ◌++◌, All, Option, Some, None, is_some, bytes_eq, if◌then◌else◌, refl, sym, ap, ◌∙◌, arith}
+use Rattle.std.proofs.Common.{◌≡◌, ℕ, ◌+◌, ◌-◌, ◌<◌, ◌≤◌, zero, suc, Bool, true, false, ◌||◌, ◌==◌, nat_le, List, [], ◌∷◌, ◌++◌, drop, length, All, Option, Some, None, is_some, bytes_eq, if◌then◌else◌, refl, sym, ap, ◌∙◌, arith}
 use Rattle.std.specs.Option.{option_map}
 use Rattle.std.proofs.lemmas.Bool.Decides.{nat_tests}
+use Rattle.std.proofs.Common.{length-append}
 use Rattle.css_types.specs.Types.{CType}
 use Rattle.css_types.specs.Scopes as types
 use Rattle.css_scopes.specs.declared.meaning.Meaning.{Meaning}
-use Rattle.css_scopes.specs.Scopes.{Binding, found, meaning_of, is_at, is_taken, is_inside, older, closed}
+use Rattle.css_scopes.specs.Scopes.{Binding, found, meaning_of, is_at, is_taken, is_inside, older, closed, kept, IsOver}
 use Rattle.css_scopes.specs.Shapes.{meaning_as, binding_as, scope_as}
 use Rattle.css_scopes.specs.Laws.{BlocksClose, AreOfTypes}
 
@@ -61,3 +62,30 @@ module _ {M : Type 0} where
   blocks_close depth (b ∷ inside) outside at below =
       let is_in : nat_le depth b.depth ≡ true = grind (arith, nat_tests, at.0) in
       closed-older depth (b ∷ (inside ++ outside)) is_in ∙ blocks_close depth inside outside at.1 below
+
+  drop_front : (newer outside : List (Binding M)) → drop (length newer) (newer ++ outside) ≡ outside
+  drop_front [] outside = refl
+  drop_front (b ∷ newer) outside = drop_front newer outside
+
+  -- what is kept is what was there
+  pub kept-over : (outside scope : List (Binding M)) → IsOver outside scope → kept (length outside) scope ≡ outside
+  kept-over outside scope o =
+      let longer = length-append o.newer outside in
+      let same : length (o.newer ++ outside) - length outside ≡ length o.newer = omega (arith, longer) in
+      ap (kept (length outside)) o.over ∙ ap (λ n. drop n (o.newer ++ outside)) same ∙ drop_front o.newer outside
+
+  older_length : (scope : List (Binding M)) (count : ℕ) → count < length scope → (length (older scope) - count) + 1 ≡ length scope - count
+  older_length [] count below = omega (arith, below)
+  older_length (b ∷ scope) count below = omega (arith, below)
+
+  drop_older : (scope : List (Binding M)) (n : ℕ) → drop (n + 1) scope ≡ drop n (older scope)
+  drop_older [] zero = refl
+  drop_older [] (suc n) = refl
+  drop_older (b ∷ scope) n = ap (λ k. drop k (b ∷ scope)) (omega arith)
+
+  pub kept-older : (count : ℕ) (scope : List (Binding M)) → count < length scope → kept count (older scope) ≡ kept count scope
+  kept-older count scope below =
+      sym (drop_older scope (length (older scope) - count)) ∙ ap (λ n. drop n scope) (older_length scope count below)
+
+  pub kept-all : (count : ℕ) (scope : List (Binding M)) → length scope ≤ count → kept count scope ≡ scope
+  kept-all count scope few = let none : length scope - count ≡ 0 = omega (arith, few) in ap (λ n. drop n scope) none

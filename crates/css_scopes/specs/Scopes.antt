@@ -1,5 +1,5 @@
 -- What can be seen at a place of a text: the bindings of names, the newest first (C99 6.2.1), whatever a name means.
-use Rattle.std.specs.Prelude.{ℕ, Bool, false, ◌==◌, ◌||◌, nat_le, List, [], ◌∷◌, Option, Some, None, is_some, option_map, bytes_eq, if◌then◌else◌, refl}
+use Rattle.std.specs.Prelude.{◌≡◌, ℕ, ◌-◌, Bool, false, ◌==◌, ◌||◌, nat_le, List, [], ◌∷◌, ◌++◌, drop, length, Option, Some, None, is_some, option_map, bytes_eq, if◌then◌else◌, refl}
 use Rattle.std.specs.Coded.{Coded, code_by, coded×, coded_ℕ, coded_list}
 use Rattle.css_types.specs.Scopes.{library_of}
 
@@ -54,3 +54,12 @@ module _ {M : Type 0} where
   abbrev pub closed : (depth : ℕ) → List (Binding M) → List (Binding M)
   closed depth [] = []
   closed depth (b ∷ scope) = if nat_le depth b.depth then closed depth scope else b ∷ scope
+
+  -- the oldest so many
+  abbrev pub kept : (count : ℕ) → List (Binding M) → List (Binding M)
+  kept count scope = drop (length scope - count) scope
+
+  -- bindings over others
+  pub record IsOver (older scope : List (Binding M)) : Type 0 where
+    pub newer : List (Binding M)
+    pub over : scope ≡ newer ++ older

@@ -1,6 +1,6 @@
 //! What a name means: a table of the bindings that can be seen. `specs/Scopes.antt` has their list.
 ghost use Rattle.std.specs.Prelude.{◌≡◌, ◌<◌, ◌∷◌, [], ℕ, List, length, is_some, Some, None, option_map, OnOk, OnErr, IfOk};
-ghost use Rattle.css_scopes.specs.Scopes.{found, meaning_of, is_at, is_taken, is_inside, older, closed};
+ghost use Rattle.css_scopes.specs.Scopes.{found, meaning_of, is_at, is_taken, is_inside, older, closed, kept};
 ghost use Rattle.css_scopes.specs.Names.{number_of};
 ghost use Rattle.css_scopes.specs.Tables.{at_number, restored, binding};
 
@@ -129,6 +129,24 @@ impl<'t, M> Scope<'t, M> {
         ensures { self.new ≡ closed depth self.old }
     {
         while self.is_inside(depth) {
+            self.forget();
+        }
+    }
+
+    /// How many bindings there are, hidden ones too.
+    pub fn len(&self) -> usize
+        ensures { result ≡ length self.now }
+    {
+        self.bindings.len()
+    }
+
+    /// Takes the newest bindings away until so many are left: what they hid is seen again. Takes no memory.
+    pub fn close_to(&mut self, count: usize)
+    where
+        M: Drop,
+        ensures { self.new ≡ kept count self.old }
+    {
+        while count < self.len() {
             self.forget();
         }
     }

@@ -1,0 +1,5 @@
+pub mod Acts
+pub mod Clauses
+pub mod SameWords
+pub mod Reached
+pub mod Breaches
