@@ -4,7 +4,7 @@ use Rattle.std.specs.Prelude.{ℕ, Bool, List, [], ◌∷◌, ◌++◌, fold, by
 use Rattle.std.specs.List.{list_any}
 use Rattle.css_tree.specs.Syntax.{Expression, Comma, Assign, Conditional, Binary, Cast, PreIncrement, PreDecrement, Unary, SizeofExpression, SizeofType, Index, PostIncrement, PostDecrement, Call, Name, Number, Text, Expressions, End, More}
 use Rattle.css_tree.specs.Syntax.{Dimensions, Initialiser, Value, String, Braces, Initialisers, NoParts, MoreParts, Declarator, Declaration, Mark, ForStart, DeclareFirst, EvaluateFirst}
-use Rattle.css_tree.specs.Syntax.{Statement, Block, Evaluate, If, IfElse, While, Do, For, Break, Continue, Return, Declared, Marked, Stated, Entries, NoEntries, MoreEntries}
+use Rattle.css_tree.specs.Syntax.{Statement, Block, Evaluate, If, IfElse, While, Do, For, Break, Continue, Return, Entry, Declared, Marked, Stated, Entries, NoEntries, MoreEntries}
 use Rattle.css_tree.specs.Syntax.{Parameter, Parameters, Empty, VoidAlone, Listed, Body, Function, Directive, Wait}
 
 -- each with the line of its statement
@@ -22,6 +22,9 @@ Locals = List (List ℕ)
 
 abbrev pub is_local : Locals → List ℕ → Bool
 is_local locals name = list_any (bytes_eq name) locals
+
+abbrev pub by_name : Bool → (line : ℕ) → List Act
+by_name local line = if local then [] else NamesGlobal line ∷ []
 
 -- ---- expressions, in a statement with this line
 
@@ -42,7 +45,7 @@ module _ (locals : Locals) (line : ℕ) where
     in_expression (PostIncrement at a) = in_expression a
     in_expression (PostDecrement at a) = in_expression a
     in_expression (Call at name arguments) = in_arguments arguments ++ Calls line name ∷ []
-    in_expression (Name at name) = if is_local locals name then [] else NamesGlobal line ∷ []
+    in_expression (Name at name) = by_name (is_local locals name) line
     in_expression (Number at t v) = []
     in_expression (Text at bytes) = []
 
@@ -98,6 +101,10 @@ abbrev pub with_start : Locals → ForStart → Locals
 with_start locals (DeclareFirst d) = with_declarators locals d.declarators
 with_start locals (EvaluateFirst value) = locals
 
+abbrev pub in_head : Locals → (line : ℕ) → ForStart → (test step : Option Expression) → List Act
+in_head locals line start test step =
+    in_start locals line start ++ (in_optional (with_start locals start) line test ++ in_optional (with_start locals start) line step)
+
 -- ---- parameters, in a function with this line
 
 abbrev pub with_name : Locals → Option (List ℕ) → Locals
@@ -123,6 +130,11 @@ abbrev pub in_directive : Locals → (line : ℕ) → Directive → List Act
 in_directive locals line (Wait own addresses) = in_all locals line addresses ++ Directs line ∷ []
 in_directive locals line other = Directs line ∷ []
 
+abbrev pub with_entry : Locals → Entry → Locals
+with_entry locals (Declared d) = with_declarators locals d.declarators
+with_entry locals (Marked m) = locals
+with_entry locals (Stated s) = locals
+
 -- where each mark was read as a directive
 module _ (read : Mark → Directive) where
   abbrev mutual
@@ -133,19 +145,20 @@ module _ (read : Mark → Directive) where
     in_statement locals (IfElse line test s other) = in_expression locals line test ++ (in_statement locals s ++ in_statement locals other)
     in_statement locals (While line test s) = in_expression locals line test ++ in_statement locals s
     in_statement locals (Do line s test) = in_statement locals s ++ in_expression locals line test
-    in_statement locals (For line start test step s) = let within = with_start locals start in
-        in_start locals line start ++ (in_optional within line test ++ (in_optional within line step ++ in_statement within s))
+    in_statement locals (For line start test step s) = in_head locals line start test step ++ in_statement (with_start locals start) s
     in_statement locals (Break line) = []
     in_statement locals (Continue line) = []
     in_statement locals (Return line value) = in_optional locals line value
 
+    pub in_entry : Locals → Entry → List Act
+    in_entry locals (Declared d) = in_declarators locals d.line d.declarators
+    in_entry locals (Marked m) = in_directive locals m.line (read m)
+    in_entry locals (Stated s) = in_statement locals s
+
     -- what stands in a block; a declared name is seen behind its declaration
     pub in_entries : Locals → Entries → List Act
     in_entries locals NoEntries = []
-    in_entries locals (MoreEntries (Declared d) others) =
-        in_declarators locals d.line d.declarators ++ in_entries (with_declarators locals d.declarators) others
-    in_entries locals (MoreEntries (Marked m) others) = in_directive locals m.line (read m) ++ in_entries locals others
-    in_entries locals (MoreEntries (Stated s) others) = in_statement locals s ++ in_entries locals others
+    in_entries locals (MoreEntries e others) = in_entry locals e ++ in_entries (with_entry locals e) others
 
   -- a body, whose outermost block is one scope with the parameters
   abbrev pub in_body : (line : ℕ) → List Parameter → Option Body → List Act

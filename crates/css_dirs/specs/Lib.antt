@@ -3,3 +3,4 @@ pub mod Clauses
 pub mod SameWords
 pub mod Reached
 pub mod Breaches
+pub mod Shapes

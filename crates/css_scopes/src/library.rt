@@ -15,21 +15,21 @@ pub enum Library {
 }
 
 /// The library's function of a name.
-#[tactic(auto, unfolding(Rattle.css_types.specs.Scopes.library_of))]
+#[tactic(auto, unfolding(css_types::specs::Scopes::library_of))]
 pub fn library_of(name: &[u8]) -> Option<Library>
     ensures { option_map library result ≡ types.library_of name.now }
 {
-    if name == b"getchar" {
+    if name == b"getchar".as_slice() {
         Some(Library::Getchar)
-    } else if name == b"putchar" {
+    } else if name == b"putchar".as_slice() {
         Some(Library::Putchar)
-    } else if name == b"puts" {
+    } else if name == b"puts".as_slice() {
         Some(Library::Puts)
-    } else if name == b"malloc" {
+    } else if name == b"malloc".as_slice() {
         Some(Library::Malloc)
-    } else if name == b"free" {
+    } else if name == b"free".as_slice() {
         Some(Library::Free)
-    } else if name == b"printf" {
+    } else if name == b"printf".as_slice() {
         Some(Library::Printf)
     } else {
         None
