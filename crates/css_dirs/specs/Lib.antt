@@ -4,3 +4,4 @@ pub mod SameWords
 pub mod Reached
 pub mod Breaches
 pub mod Shapes
+pub mod Closure

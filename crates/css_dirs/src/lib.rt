@@ -5,6 +5,7 @@ mod act;
 mod clauses;
 mod declarations;
 mod expressions;
+mod reach;
 mod reads;
 mod same_words;
 mod statements;
