@@ -1,13 +1,38 @@
 -- The table when a name is declared, and when the newest binding goes.
-use Rattle.std.proofs.Common.{◌≡◌, ◌≢◌, ℕ, ◌+◌, ◌<◌, Bool, true, false, List, [], ◌∷◌, ◌++◌, length, set, bytes_eq, get_or, Option, Some, None, if◌then◌else◌, refl, sym, ap, ◌∙◌, subst, arith, append_assoc, length-set}
-use Rattle.std.proofs.lemmas.List.{get_or-set_same, get_or-set_other, append-nil}
-use Rattle.std.proofs.lemmas.Option.{none-some}
+use Rattle.std.proofs.Common.{◌≡◌, ◌≢◌, ℕ, ◌+◌, ◌-◌, ◌<◌, Bool, true, false, List, [], ◌∷◌, ◌++◌, length, nat_le, set, bytes_eq, get_or, slice_get, Option, Some, None, if◌then◌else◌, refl, sym, ap, ◌∙◌, subst, arith, append_assoc, length-set}
+use Rattle.std.proofs.lemmas.List.{get_or_default, get_or-set_same, get_or-set_other, append-nil}
+use Rattle.std.proofs.lemmas.Option.{none-some, slice_get-get_or}
 use Rattle.std.proofs.lemmas.List.Quantifiers.{position-Some}
 use Rattle.std.proofs.lemmas.Slice.Eq.{bytes_eq-Decides}
 use Rattle.css_scopes.specs.declared.scope.Entry.{Entry}
-use Rattle.css_scopes.specs.Scopes.{Binding, older}
+use Rattle.css_scopes.specs.Scopes.{Binding, older, is_inside}
 use Rattle.css_scopes.specs.Names.{number_of}
 use Rattle.css_scopes.specs.Tables.{binding, stacked_on, newest_place, place_of, at_number, IsIndexed, AreHiding, restored}
+
+-- names of one number are one
+one_name : (names : List (List ℕ)) (n : ℕ) (p q : List ℕ) → number_of names p ≡ Some n → number_of names q ≡ Some n → p ≡ q
+one_name names n p q e e' =
+    let is = position-Some (bytes_eq p) names n [] e in
+    let is' = position-Some (bytes_eq q) names n [] e' in
+    (bytes_eq-Decides p (get_or names n [])).0 is.1 ∙ sym ((bytes_eq-Decides q (get_or names n [])).0 is'.1)
+
+module _ (names : List (List ℕ)) (newest : List (Option ℕ)) (n : ℕ) (text : List ℕ) (at : number_of names text ≡ Some n) (within : n < length newest) (now : Option ℕ) where
+  -- the table's entry of a name is another now
+  at_same : (name : List ℕ) → text ≡ name → at_number (set newest n now) (number_of names name) ≡ now
+  at_same name e = ap (at_number (set newest n now)) (ap (number_of names) (sym e) ∙ at) ∙ get_or-set_same newest n now None within
+
+  some_other : (name : List ℕ) (m : ℕ) → number_of names name ≡ Some m → (text ≡ name → ⊥) → m ≢ n
+  some_other name m e differ = λ same. differ (one_name names n text name at (e ∙ ap Some same))
+
+  at_other_number : (name : List ℕ) (o : Option ℕ) → number_of names name ≡ o → (text ≡ name → ⊥) → at_number (set newest n now) o ≡ at_number newest o
+  at_other_number name None e differ = refl
+  at_other_number name (Some m) e differ = get_or-set_other newest n m now None (some_other name m e differ)
+
+  at_other : (name : List ℕ) → (text ≡ name → ⊥) → at_number (set newest n now) (number_of names name) ≡ at_number newest (number_of names name)
+  at_other name differ = at_other_number name (number_of names name) refl differ
+
+no_true : (b : Bool) → b ≡ false → b ≡ true → ⊥
+no_true b e e' = absurd cc
 
 module _ {M : Type 0} where
   newest_place-last : (at : ℕ) (best : Option ℕ) (bs : List (Entry M)) (b : Entry M) (name : List ℕ) (end : ℕ) → end ≡ at + length bs
@@ -24,13 +49,6 @@ module _ {M : Type 0} where
   stacked_on-last before [] b = refl
   stacked_on-last before (x ∷ bs) b = stacked_on-last (binding x ∷ before) bs b
 
-  -- names of one number are one
-  one_name : (names : List (List ℕ)) (n : ℕ) (p q : List ℕ) → number_of names p ≡ Some n → number_of names q ≡ Some n → p ≡ q
-  one_name names n p q e e' =
-      let is = position-Some (bytes_eq p) names n [] e in
-      let is' = position-Some (bytes_eq q) names n [] e' in
-      (bytes_eq-Decides p (get_or names n [])).0 is.1 ∙ sym ((bytes_eq-Decides q (get_or names n [])).0 is'.1)
-
   -- the last binding is of this name
   at_last : (bs : List (Entry M)) (b : Entry M) (name : List ℕ) → bytes_eq b.name.now name ≡ true → place_of (bs ++ b ∷ []) name ≡ Some (length bs)
   at_last bs b name e = place_of-last bs b name ∙ ap (λ (t : Bool). if t then Some (length bs) else place_of bs name) e
@@ -38,24 +56,6 @@ module _ {M : Type 0} where
   -- it is of another
   before_last : (bs : List (Entry M)) (b : Entry M) (name : List ℕ) → bytes_eq b.name.now name ≡ false → place_of (bs ++ b ∷ []) name ≡ place_of bs name
   before_last bs b name e = place_of-last bs b name ∙ ap (λ (t : Bool). if t then Some (length bs) else place_of bs name) e
-
-  module _ (names : List (List ℕ)) (newest : List (Option ℕ)) (n : ℕ) (text : List ℕ) (at : number_of names text ≡ Some n) (within : n < length newest) (now : Option ℕ) where
-    -- the table's entry of a name is another now
-    at_same : (name : List ℕ) → text ≡ name → at_number (set newest n now) (number_of names name) ≡ now
-    at_same name e = ap (at_number (set newest n now)) (ap (number_of names) (sym e) ∙ at) ∙ get_or-set_same newest n now None within
-
-    some_other : (name : List ℕ) (m : ℕ) → number_of names name ≡ Some m → (text ≡ name → ⊥) → m ≢ n
-    some_other name m e differ = λ same. differ (one_name names n text name at (e ∙ ap Some same))
-
-    at_other_number : (name : List ℕ) (o : Option ℕ) → number_of names name ≡ o → (text ≡ name → ⊥) → at_number (set newest n now) o ≡ at_number newest o
-    at_other_number name None e differ = refl
-    at_other_number name (Some m) e differ = get_or-set_other newest n m now None (some_other name m e differ)
-
-    at_other : (name : List ℕ) → (text ≡ name → ⊥) → at_number (set newest n now) (number_of names name) ≡ at_number newest (number_of names name)
-    at_other name differ = at_other_number name (number_of names name) refl differ
-
-  no_true : (b : Bool) → b ≡ false → b ≡ true → ⊥
-  no_true b e e' = absurd cc
 
   -- the newest binding goes
   pub left_indexed : (names : List (List ℕ)) (newest : List (Option ℕ)) (bs : List (Entry M)) (b : Entry M) (n : ℕ) → number_of names b.name.now ≡ Some n → n < length newest
@@ -129,3 +129,19 @@ module _ {M : Type 0} where
   pub length-stacked_on : (before : List (Binding M)) (bs : List (Entry M)) → length (stacked_on before bs) ≡ length before + length bs
   length-stacked_on before [] = omega arith
   length-stacked_on before (b ∷ bs) = let rest = length-stacked_on (binding b ∷ before) bs in omega (arith, rest)
+
+  -- the newest binding is the last one of the table
+  pub inside-last : (depth : ℕ) (before : List (Binding M)) (x : Entry M) (bs : List (Entry M)) → is_inside depth (stacked_on before (x ∷ bs)) ≡ nat_le depth (get_or (x ∷ bs) (length bs) x).depth
+  inside-last depth before x [] = refl
+  inside-last depth before x (y ∷ bs) =
+      inside-last depth (binding x ∷ before) y bs ∙ ap (λ (e : Entry M). nat_le depth e.depth) (get_or_default (y ∷ bs) (length bs) y x (omega arith))
+
+  pub inside_by : (depth : ℕ) (bs : List (Entry M)) (e : Entry M) → Some e ≡ slice_get bs (length bs - 1) → is_inside depth (stacked_on [] bs) ≡ nat_le depth e.depth
+  inside_by depth [] e is = absurd (none-some e (sym is))
+  inside_by depth (x ∷ bs) e is =
+      let last : length (x ∷ bs) - 1 ≡ length bs = omega arith in
+      let found : Some e ≡ Some (get_or (x ∷ bs) (length bs) x) = is ∙ ap (slice_get (x ∷ bs)) last ∙ slice_get-get_or (x ∷ bs) (length bs) x (omega arith) in
+      inside-last depth [] x bs ∙ ap (λ (o : Option (Entry M)). nat_le depth (or_else x o).depth) (sym found) where
+    or_else : Entry M → Option (Entry M) → Entry M
+    or_else d None = d
+    or_else d (Some a) = a

@@ -3,3 +3,4 @@ pub mod Growing
 pub mod Tables
 pub mod Leaving
 pub mod Shown
+pub mod Found

@@ -123,6 +123,7 @@ impl<'t, M> Scope<'t, M> {
     }
 
     /// Closes the block of this depth: its bindings go, and those of blocks inside it. What they hid is seen again. Takes no memory.
+    #[tactic(auto, using(crate::proofs::Shown::closed_older, crate::proofs::Shown::closed_all))]
     pub fn close(&mut self, depth: u32)
     where
         M: Drop,
@@ -141,6 +142,7 @@ impl<'t, M> Scope<'t, M> {
     }
 
     /// Takes the newest bindings away until so many are left: what they hid is seen again. Takes no memory.
+    #[tactic(auto, using(crate::proofs::Shown::kept_older, crate::proofs::Shown::kept_all))]
     pub fn close_to(&mut self, count: usize)
     where
         M: Drop,
