@@ -11,8 +11,7 @@ use Rattle.css_tree.specs.Syntax.{Parameter, Argument, Plain, Strided, Clause, A
 use Rattle.css_types.specs.Types.{CType, Void, named_by}
 
 abbrev pub is_none : {A : Type 0} → List A → Bool
-is_none [] = true
-is_none (x ∷ xs) = false
+is_none xs = length xs == 0
 
 -- ---- parameters
 
@@ -52,9 +51,19 @@ pub record Named : Type 0 where
   pub name : List ℕ
   pub sizes : List Expression
 
+abbrev pub argument_name : Argument → List ℕ
+argument_name (Plain name sizes) = name
+argument_name (Strided name rows width stride) = name
+
+abbrev pub sizes_of : Argument → List Expression
+sizes_of (Plain name sizes) = sizes
+sizes_of (Strided name rows width stride) = rows ∷ width ∷ stride ∷ []
+
 abbrev pub named : Direction → Argument → Named
-named direction (Plain name sizes) = record { direction = direction; name = name; sizes = sizes }
-named direction (Strided name rows width stride) = record { direction = direction; name = name; sizes = rows ∷ width ∷ stride ∷ [] }
+named direction a = record { direction = direction; name = argument_name a; sizes = sizes_of a }
+
+abbrev pub names_of : List Named → List (List ℕ)
+names_of all = map (λ a. a.name) all
 
 abbrev pub named_in : List Clause → List Named
 named_in [] = []
@@ -63,13 +72,13 @@ named_in (HighPriority ∷ clauses) = named_in clauses
 
 -- ---- what is wrong
 
-abbrev pub is_named_by : List ℕ → Named → Bool
-is_named_by name a = bytes_eq a.name name
+abbrev pub is_among : List (List ℕ) → List ℕ → Bool
+is_among names name = list_any (bytes_eq name) names
 
 -- a parameter stands in a clause
-abbrev pub stands : List Named → Option (List ℕ) → Bool
-stands all None = false
-stands all (Some name) = list_any (is_named_by name) all
+abbrev pub stands : List (List ℕ) → Option (List ℕ) → Bool
+stands names None = false
+stands names (Some name) = is_among names name
 
 abbrev pub is_input : Direction → Bool
 is_input In = true
@@ -88,7 +97,7 @@ is_of_address unaries.Not = false
 module _ (ps : List Parameter) where
   -- a pointer parameter stands in no clause
   abbrev pub lacks_direction : List Named → Bool
-  lacks_direction all = list_any (λ p. is_pointer p && not (stands all p.name)) ps
+  lacks_direction all = list_any (λ p. is_pointer p && not (stands (names_of all) p.name)) ps
 
   -- a dimension uses a name that isn't an integer parameter's, unary `*` or `&`, or `[]`
   abbrev mutual
@@ -127,7 +136,7 @@ module _ (ps : List Parameter) where
   abbrev pub is_bad : Named → Bool
   is_bad a = names_unfit a.direction (parameter_named a.name ps) || list_any is_foreign a.sizes
 
-  -- one that is bad, or names what an earlier one names
-  abbrev pub has_bad : List Named → Bool
-  has_bad [] = false
-  has_bad (a ∷ all) = is_bad a || (list_any (is_named_by a.name) all || has_bad all)
+  -- behind some names, one that is bad, or names what an earlier one names
+  abbrev pub has_bad : (earlier : List (List ℕ)) → List Named → Bool
+  has_bad earlier [] = false
+  has_bad earlier (a ∷ all) = is_bad a || (is_among earlier a.name || has_bad (earlier ++ a.name ∷ []) all)

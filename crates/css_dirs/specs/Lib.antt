@@ -4,4 +4,6 @@ pub mod SameWords
 pub mod Reached
 pub mod Breaches
 pub mod Shapes
+pub mod Listed
+pub mod Tables
 pub mod Closure

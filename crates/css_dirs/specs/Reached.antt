@@ -4,13 +4,22 @@ use Rattle.std.specs.List.{list_any}
 use Rattle.css_tree.specs.Syntax.{Function, Item, Define, Declare, Tree, Mark, Directive}
 use Rattle.css_dirs.specs.Acts.{Act, NamesGlobal, Calls, Directs, in_function}
 
--- a directive stands before a prototype or the definition of this name
-abbrev pub marks_task : List ℕ → Item → Bool
-marks_task name (Define f) = is_some f.directive && bytes_eq f.name name
-marks_task name (Declare d) = false
+-- the directive of a function, if this is its name
+abbrev pub mark_of : Function → List ℕ → Option Mark
+mark_of f name = if bytes_eq f.name name then f.directive else None
+
+abbrev pub or_else : {A : Type 0} → Option A → Option A → Option A
+or_else None other = other
+or_else (Some a) other = Some a
+
+-- the first directive before a prototype or definition of a name
+abbrev pub first_mark : List Item → List ℕ → Option Mark
+first_mark [] name = None
+first_mark (Define f ∷ items) name = or_else (mark_of f name) (first_mark items name)
+first_mark (Declare d ∷ items) name = first_mark items name
 
 abbrev pub is_task : Tree → List ℕ → Bool
-is_task tree name = list_any (marks_task name) tree
+is_task tree name = is_some (first_mark tree name)
 
 -- the names that are called
 abbrev pub called : List Act → List (List ℕ)

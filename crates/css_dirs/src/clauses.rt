@@ -1,9 +1,9 @@
 //! What is wrong with a task's first directive.
-ghost use Rattle.std.specs.Prelude.{◌≡◌, ◌++◌, ◌∷◌, [], IfOk, OnOk, map};
+ghost use Rattle.std.specs.Prelude.{◌≡◌, ℕ, List, ◌++◌, ◌∷◌, [], IfOk, OnOk, map, option_map};
 ghost use Rattle.std.specs.List.{list_any};
 ghost use Rattle.css_tree.specs.Shapes as shapes;
 ghost use Rattle.css_dirs.specs.Breaches.{first_of, in_first};
-ghost use Rattle.css_dirs.specs.Clauses.{named_in, names_of, stands, lacks_direction, is_input, is_unfit, is_bad, has_bad};
+ghost use Rattle.css_dirs.specs.Clauses.{argument_name, sizes_of, named, named_in, names_of, stands, lacks_direction, is_input, names_unfit, is_bad, has_bad, is_foreign};
 ghost use Rattle.css_dirs.specs.Listed.{named_of};
 ghost use Rattle.css_dirs.specs.Tables.{HasNames};
 

@@ -5,6 +5,8 @@ mod act;
 mod clauses;
 mod declarations;
 mod expressions;
+mod foreign;
+mod parameters;
 mod reach;
 mod reads;
 mod same_words;
