@@ -125,7 +125,6 @@ module _ {M : Type 0} where
   pub stacked_on-older : (bs all : List (Entry M)) (b : Entry M) → all ≡ bs ++ b ∷ [] → stacked_on [] bs ≡ older (stacked_on [] all)
   stacked_on-older bs all b added = sym (ap (λ l. older (stacked_on [] l)) added ∙ ap older (stacked_on-last [] bs b))
 
-
   pub length-stacked_on : (before : List (Binding M)) (bs : List (Entry M)) → length (stacked_on before bs) ≡ length before + length bs
   length-stacked_on before [] = omega arith
   length-stacked_on before (b ∷ bs) = let rest = length-stacked_on (binding b ∷ before) bs in omega (arith, rest)
@@ -142,6 +141,6 @@ module _ {M : Type 0} where
       let last : length (x ∷ bs) - 1 ≡ length bs = omega arith in
       let found : Some e ≡ Some (get_or (x ∷ bs) (length bs) x) = is ∙ ap (slice_get (x ∷ bs)) last ∙ slice_get-get_or (x ∷ bs) (length bs) x (omega arith) in
       inside-last depth [] x bs ∙ ap (λ (o : Option (Entry M)). nat_le depth (or_else x o).depth) (sym found) where
-    or_else : Entry M → Option (Entry M) → Entry M
-    or_else d None = d
-    or_else d (Some a) = a
+        or_else : Entry M → Option (Entry M) → Entry M
+        or_else d None = d
+        or_else d (Some a) = a

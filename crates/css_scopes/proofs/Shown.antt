@@ -74,7 +74,7 @@ module _ {M : Type 0} where
       ap (kept (length outside)) o.over ∙ ap (λ n. drop n (o.newer ++ outside)) same ∙ drop-append_seam o.newer outside
 
   pub kept_older : (count : ℕ) (scope : List (Binding M)) → count < length scope → kept count (older scope) ≡ kept count scope
-  kept_older count [] below = omega (arith, below)
+  kept_older count [] below = refl
   kept_older count (b ∷ scope) below =
       let one_more : suc (length scope) - count ≡ suc (length scope - count) = omega (arith, below) in
       sym (ap (λ n. drop n (b ∷ scope)) one_more)

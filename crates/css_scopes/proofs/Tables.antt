@@ -78,4 +78,3 @@ module _ {M : Type 0} where
   -- what the table says
   pub looked_up : (names : List (List ℕ)) (newest l : List (Option ℕ)) (bs : List (Entry M)) (name : List ℕ) (p : Option ℕ) → IsIndexed names newest bs → l ≡ newest → p ≡ at_number l (number_of names name) → place_of bs name ≡ p
   looked_up names newest l bs name p ix e is = sym (ix name) ∙ ap (λ x. at_number x (number_of names name)) (sym e) ∙ sym is
-

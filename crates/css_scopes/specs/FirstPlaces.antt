@@ -1,7 +1,6 @@
 -- What the table of first places has to do with the list of names.
 use Rattle.std.specs.Prelude.{◌≡◌, ℕ, List, position, bytes_eq}
-use Rattle.std.specs.Borrow.{Bor}
-use Rattle.std.specs.Map.{lookup}
+use Rattle.css_scopes.specs.Firsts.{value_of}
 
-abbrev pub ArePlaces : List (Bor (List ℕ) × ℕ) → List (List ℕ) → Type 0
-ArePlaces entries names = (name : List ℕ) → lookup (λ k. bytes_eq name k.now) entries ≡ position (bytes_eq name) names
+abbrev pub ArePlaces : List (List ℕ × ℕ) → List (List ℕ) → Type 0
+ArePlaces first names = (name : List ℕ) → value_of first name ≡ position (bytes_eq name) names

@@ -1,5 +1,5 @@
 //! Values by name, of which the first counts.
-ghost use Rattle.std.specs.Prelude.{◌≡◌, [], OnOk, OnErr};
+ghost use Rattle.std.specs.Prelude.{◌≡◌, [], ◌∷◌, ◌++◌, None, OnOk, OnErr};
 ghost use Rattle.css_scopes.specs.Firsts.{value_of, with_value};
 
 use css_base::NoMemory;
@@ -48,9 +48,23 @@ impl<'t, V: Copy> Firsts<'t, V> {
         ensures ok { OnOk result (self.new ≡ with_value self.old name.now value) }
         ensures unchanged { OnErr result (self.new ≡ self.old) }
     {
-        if self.find(name).is_none() && self.values.insert(name, value).is_err() {
-            return Err(NoMemory);
+        if self.find(name).is_some() {
+            return Ok(());
         }
-        Ok(())
+        self.add_new(name, value)
+    }
+
+    /// Gives a name that has no value this one. An error changes nothing.
+    fn add_new(&mut self, name: &'t [u8], value: V) -> Result<(), NoMemory>
+    where
+        V: Drop,
+        requires { value_of self.old name.now ≡ None }
+        ensures ok { OnOk result (self.new ≡ self.old ++ (name.now, value) ∷ []) }
+        ensures unchanged { OnErr result (self.new ≡ self.old) }
+    {
+        match self.values.insert(name, value) {
+            Ok(_) => Ok(()),
+            Err(_) => Err(NoMemory),
+        }
     }
 }

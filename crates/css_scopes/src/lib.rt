@@ -13,5 +13,6 @@ pub use firsts::Firsts;
 pub use laws::{blocks_close, scopes_are_of_types};
 pub use library::{Library, library_of};
 pub use meaning::{Meaning, Where};
+pub use name_set::NameSet;
 pub use places::Places;
 pub use scope::Scope;

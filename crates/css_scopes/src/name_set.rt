@@ -9,7 +9,7 @@ use std::marker::Model;
 
 /// Different names, which are lent, numbered from 0 in order. Contracts see their list.
 #[derive(Drop)]
-pub(crate) struct NameSet<'t> {
+pub struct NameSet<'t> {
     texts: IndexSet<&'t [u8]>,
 }
 
@@ -25,7 +25,7 @@ impl<'t> Model for NameSet<'t> {
 
 impl<'t> NameSet<'t> {
     /// No names. Takes no memory.
-    pub(crate) fn new(alloc: Global) -> NameSet<'t>
+    pub fn new(alloc: Global) -> NameSet<'t>
         ensures { result ≡ [] }
     {
         NameSet {
@@ -34,14 +34,14 @@ impl<'t> NameSet<'t> {
     }
 
     /// How many names there are.
-    pub(crate) fn count(&self) -> u32
+    pub fn count(&self) -> u32
         ensures { result ≡ length self.now }
     {
         self.texts.len() as u32
     }
 
     /// The number of a name, if it is among them.
-    pub(crate) fn number_of(&self, name: &[u8]) -> Option<u32>
+    pub fn number_of(&self, name: &[u8]) -> Option<u32>
         ensures { result ≡ number_of self.now name.now }
     {
         match self.texts.get_index_of(name) {
@@ -51,7 +51,7 @@ impl<'t> NameSet<'t> {
     }
 
     /// Adds a new name behind the others. An error changes nothing.
-    pub(crate) fn add(&mut self, name: &'t [u8]) -> Result<(), NoMemory>
+    pub fn add(&mut self, name: &'t [u8]) -> Result<(), NoMemory>
         requires new { is_among self.old name.now ≡ false }
         requires few { length self.old < 4294967295 }
         ensures ok { OnOk result (self.new ≡ self.old ++ name.now ∷ []) }

@@ -1,8 +1,8 @@
 //! The first places of names in a list of names.
 ghost use Rattle.std.specs.Prelude.{◌≡◌, ◌++◌, ◌∷◌, [], length, position, bytes_eq, OnOk, OnErr};
 
+use crate::firsts::Firsts;
 use css_base::NoMemory;
-use indexmap::IndexMap;
 use std::alloc::Global;
 use std::marker::Model;
 
@@ -11,7 +11,7 @@ use std::marker::Model;
 #[derive(Drop)]
 pub struct Places<'t> {
     /// The first place of each name.
-    first: IndexMap<&'t [u8], u32>,
+    first: Firsts<'t, u32>,
     all: Vec<&'t [u8]>,
 }
 
@@ -23,7 +23,7 @@ impl<'t> Model for Places<'t> {
 
     ghost view = { λ p. map (λ name. name.now) p.all.items };
 
-    ghost invariant = { λ p. ArePlaces p.first.entries (map (λ name. name.now) p.all.items) };
+    ghost invariant = { λ p. ArePlaces p.first (map (λ name. name.now) p.all.items) };
 }
 
 impl<'t> Places<'t> {
@@ -32,7 +32,7 @@ impl<'t> Places<'t> {
         ensures { result ≡ [] }
     {
         Places {
-            first: IndexMap::new(alloc),
+            first: Firsts::new(alloc),
             all: Vec::new(alloc),
         }
     }
@@ -48,7 +48,7 @@ impl<'t> Places<'t> {
     pub fn place_of(&self, name: &[u8]) -> Option<u32>
         ensures { result ≡ position (bytes_eq name.now) self.now }
     {
-        self.first.get(name).copied()
+        self.first.find(name)
     }
 
     /// Adds a name behind the others. An error changes nothing; it comes also where there are 2^32 names already.
@@ -61,10 +61,12 @@ impl<'t> Places<'t> {
             return Err(NoMemory);
         }
         self.all.push(name)?;
-        if self.first.get(name).is_none() && self.first.insert(name, place as u32).is_err() {
-            self.all.pop();
-            return Err(NoMemory);
+        match self.first.add(name, place as u32) {
+            Ok(()) => Ok(()),
+            Err(_) => {
+                self.all.pop();
+                Err(NoMemory)
+            }
         }
-        Ok(())
     }
 }
