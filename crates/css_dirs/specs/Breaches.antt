@@ -3,12 +3,13 @@ use Rattle.std.specs.Prelude.{◌≡◌, ℕ, Bool, true, not, nat_lt, ◌⊎◌
 use Rattle.css_base.specs.declared.static_fault.StaticName.{StaticName}
 use Rattle.css_base.specs.declared.static_fault.StaticName.TheVariants.{NoDirection, BadClause, TaskGlobal, TaskOutside, NestedTask, NotVoid, TooManyArguments}
 use Rattle.css_base.specs.declared.static_fault.StaticFault.{StaticFault}
-use Rattle.css_tree.specs.Syntax.{Mark, Parameter, Function, Item, Define, Declare, Tree, Directive, Start, Finish, Barrier, Wait, Task}
+use Rattle.css_tree.specs.declared.words.Specifier.{Specifier}
+use Rattle.css_tree.specs.Syntax.{Mark, Stars, Parameter, Function, Item, Define, Declare, Tree, Directive, Start, Finish, Barrier, Wait, Task}
 use Rattle.css_types.specs.Scopes.{library_of}
-use Rattle.css_dirs.specs.Acts.{Act, NamesGlobal, Calls, Directs, listed, in_function}
+use Rattle.css_dirs.specs.Acts.{Act, NamesGlobal, Calls, Directs, listed}
 use Rattle.css_dirs.specs.SameWords.{same_words}
 use Rattle.css_dirs.specs.Clauses.{is_none, says_void, named_in, lacks_direction, has_bad}
-use Rattle.css_dirs.specs.Reached.{first_mark, is_task, IsReached}
+use Rattle.css_dirs.specs.Reached.{first_mark, is_task, item_text, IsReached}
 
 abbrev pub fault : StaticName → (line : ℕ) → StaticFault
 fault rule line = record { name = rule; line = line }
@@ -33,8 +34,9 @@ in_first line ps gives_void (Task own clauses) = let all = named_in clauses in
     ++ when (nat_lt 32 (length ps)) TooManyArguments line
 in_first line ps gives_void other = []
 
-abbrev pub gives_void : Function → Bool
-gives_void f = says_void f.specifiers && is_none f.stars
+-- a function with these words and stars gives nothing
+abbrev pub says_no_value : List Specifier → Stars → Bool
+says_no_value words stars = says_void words && is_none stars
 
 -- a place where a rule is broken, where it stands in the text of a function if tasks reach that function
 pub record Place : Type 0 where
@@ -58,42 +60,54 @@ module _ (is_task : List ℕ → Bool) where
   by_acts [] = []
   by_acts (act ∷ acts) = by_act act ++ by_acts acts
 
-module _ (read : Mark → Directive) (tree : Tree) where
+-- where each mark was read as a directive
+module _ (read : Mark → Directive) where
   -- a further directive says the same as the first, and is judged by nothing else
-  abbrev pub in_mark : Function → Mark → (first : Option Mark) → List StaticFault
-  in_mark f m None = in_first m.line (listed f.parameters) (gives_void f) (read m)
-  in_mark f m (Some first) = when (not (same_words first.words m.words)) BadClause m.line
+  abbrev pub by_mark : List Parameter → (gives_void : Bool) → Mark → (first : Option Mark) → List StaticFault
+  by_mark ps gives_void m None = in_first m.line ps gives_void (read m)
+  by_mark ps gives_void m (Some first) = when (not (same_words first.words m.words)) BadClause m.line
 
-  -- behind some items
-  abbrev pub in_directive : List Item → Function → Option Mark → List StaticFault
+  abbrev pub in_directive : (before : List Item) → Function → Option Mark → List StaticFault
   in_directive before f None = []
-  in_directive before f (Some m) = in_mark f m (first_mark before f.name)
+  in_directive before f (Some m) = by_mark (listed f.parameters) (says_no_value f.specifiers f.stars) m (first_mark before f.name)
 
-  -- ---- all of them
+  -- by the directive of an item behind some items
+  abbrev pub by_directive : (before : List Item) → Item → List StaticFault
+  by_directive before (Define f) = in_directive before f f.directive
+  by_directive before (Declare d) = []
 
-  abbrev pub in_item : List Item → Item → List Place
-  in_item before (Define f) = map outside (in_directive before f f.directive) ++ map (inside f.name) (by_acts (is_task tree) (in_function read f))
-  in_item before (Declare d) = []
+  -- by the text of an item, if tasks reach the function that it defines
+  abbrev pub by_text : Tree → Item → List StaticFault
+  by_text tree item = by_acts (is_task tree) (item_text read item)
 
-  -- in order of text, behind some items
-  abbrev pub in_items : (before items : List Item) → List Place
-  in_items before [] = []
-  in_items before (item ∷ items) = in_item before item ++ in_items (before ++ item ∷ []) items
+  abbrev pub name_of : Item → List ℕ
+  name_of (Define f) = f.name
+  name_of (Declare d) = []
 
-  -- the rule is broken there
-  abbrev pub Counts : Option (List ℕ) → Type 0
-  Counts None = Unit {0}
-  Counts (Some name) = IsReached read tree name
+  -- ---- all of them, in order of text
 
-  -- the first place where one is broken has this fault
-  abbrev pub IsFirst : List Place → StaticFault → Type 0
-  IsFirst [] f = ⊥
-  IsFirst (p ∷ places) f = (Counts p.within × (p.fault ≡ f)) ⊎ (¬ Counts p.within × IsFirst places f)
+  module _ (tree : Tree) where
+    abbrev pub in_item : (before : List Item) → Item → List Place
+    in_item before item = map outside (by_directive before item) ++ map (inside (name_of item)) (by_text tree item)
 
-  -- no rule is broken
-  abbrev pub AreKept : List Place → Type 0
-  AreKept [] = Unit {0}
-  AreKept (p ∷ places) = ¬ Counts p.within × AreKept places
+    abbrev pub in_items : (before items : List Item) → List Place
+    in_items before [] = []
+    in_items before (item ∷ items) = in_item before item ++ in_items (before ++ item ∷ []) items
+
+    -- the rule is broken there
+    abbrev pub Counts : Option (List ℕ) → Type 0
+    Counts None = Unit {0}
+    Counts (Some name) = IsReached read tree name
+
+    -- the first place where one is broken has this fault
+    abbrev pub IsFirst : List Place → StaticFault → Type 0
+    IsFirst [] f = ⊥
+    IsFirst (p ∷ places) f = (Counts p.within × (p.fault ≡ f)) ⊎ (¬ Counts p.within × IsFirst places f)
+
+    -- no rule is broken
+    abbrev pub AreKept : List Place → Type 0
+    AreKept [] = Unit {0}
+    AreKept (p ∷ places) = ¬ Counts p.within × AreKept places
 
 -- the program breaks this rule on tasks first
 abbrev pub IsBroken : (Mark → Directive) → Tree → StaticFault → Type 0

@@ -7,3 +7,4 @@ pub mod Shapes
 pub mod Listed
 pub mod Tables
 pub mod Closure
+pub mod Graphs

@@ -28,13 +28,22 @@ called (NamesGlobal line ∷ acts) = called acts
 called (Calls line name ∷ acts) = name ∷ called acts
 called (Directs line ∷ acts) = called acts
 
+-- the definition of a function of this name
+abbrev pub defines : List ℕ → Item → Bool
+defines name (Define f) = is_some f.body && bytes_eq f.name name
+defines name (Declare d) = false
+
 -- where each mark was read as a directive
 module _ (read : Mark → Directive) where
-  -- the text of the function of this name
+  -- the text of an item that defines a function; another has none
+  abbrev pub item_text : Item → List Act
+  item_text (Define f) = in_function read f
+  item_text (Declare d) = []
+
+  -- the text of the function of this name, which an accepted text defines at most once
   abbrev pub text_of : Tree → List ℕ → List Act
   text_of [] name = []
-  text_of (Define f ∷ items) name = (if bytes_eq f.name name then in_function read f else []) ++ text_of items name
-  text_of (Declare d ∷ items) name = text_of items name
+  text_of (item ∷ items) name = if defines name item then item_text item else text_of items name
 
   -- one calls the other in its text
   abbrev pub calls : Tree → (f g : List ℕ) → Bool

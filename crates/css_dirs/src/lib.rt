@@ -2,10 +2,13 @@
 #![tactic(auto)]
 
 mod act;
+mod checking;
 mod clauses;
 mod declarations;
+mod directives;
 mod expressions;
 mod foreign;
+mod numbers;
 mod parameters;
 mod reach;
 mod reads;
@@ -13,4 +16,5 @@ mod same_words;
 mod statements;
 mod texts;
 
+pub use checking::check_tasks;
 pub use reads::Reads;

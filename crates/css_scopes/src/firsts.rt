@@ -62,9 +62,9 @@ impl<'t, V: Copy> Firsts<'t, V> {
         ensures ok { OnOk result (self.new ≡ self.old ++ (name.now, value) ∷ []) }
         ensures unchanged { OnErr result (self.new ≡ self.old) }
     {
-        match self.values.insert(name, value) {
-            Ok(_) => Ok(()),
-            Err(_) => Err(NoMemory),
+        if self.values.insert(name, value).is_err() {
+            return Err(NoMemory);
         }
+        Ok(())
     }
 }
