@@ -59,38 +59,38 @@ there n m below = let is : nat_lt n m ≡ true = grind (arith, nat_tests) in ap 
 past : (n m : ℕ) → m ≤ n → cond (nat_lt n m) (Some n) None ≡ None
 past n m above = let is : nat_lt n m ≡ false = grind (arith, nat_tests) in ap (λ t. cond t (Some n) None) is
 
--- one name more
-pub position-push : (q name : List ℕ) (names : List (List ℕ)) → position (bytes_eq q) (names ++ name ∷ []) ≡ first_of (position (bytes_eq q) names) (if bytes_eq q name then Some (length names) else None)
-position-push q name names = by_test (nat_lt p (length names)) refl (bytes_eq q name) refl where
+-- one more
+pub position-push : {A : Type 0} (test : A → Bool) (x : A) (xs : List A) → position test (xs ++ x ∷ []) ≡ first_of (position test xs) (if test x then Some (length xs) else None)
+position-push test x xs = by_test (nat_lt p (length xs)) refl (test x) refl where
   p : ℕ
-  p = position_or_len (bytes_eq q) names
+  p = position_or_len test xs
 
   p' : ℕ
-  p' = position_or_len (bytes_eq q) (names ++ name ∷ [])
+  p' = position_or_len test (xs ++ x ∷ [])
 
-  pushed : p' ≡ cond (eqb p (length names)) (length names + cond (bytes_eq q name) 0 1) p
-  pushed = position_or_len_push (bytes_eq q) names name
+  pushed : p' ≡ cond (eqb p (length xs)) (length xs + cond (test x) 0 1) p
+  pushed = position_or_len_push test xs x
 
-  longer : length (names ++ name ∷ []) ≡ length names + 1
-  longer = length-append names (name ∷ [])
+  longer : length (xs ++ x ∷ []) ≡ length xs + 1
+  longer = length-append xs (x ∷ [])
 
-  by_test : (t : Bool) → nat_lt p (length names) ≡ t → (same : Bool) → bytes_eq q name ≡ same
-      → cond (nat_lt p' (length (names ++ name ∷ []))) (Some p') None ≡ first_of (cond t (Some p) None) (if same then Some (length names) else None)
+  by_test : (t : Bool) → nat_lt p (length xs) ≡ t → (same : Bool) → test x ≡ same
+      → cond (nat_lt p' (length (xs ++ x ∷ []))) (Some p') None ≡ first_of (cond t (Some p) None) (if same then Some (length xs) else None)
   by_test true below same e =
-      let other : eqb p (length names) ≡ false = grind (arith, nat_tests, below) in
-      let is : p' ≡ p = pushed ∙ ap (λ t. cond t (length names + cond (bytes_eq q name) 0 1) p) other in
-      let lower : p < length names = grind (arith, nat_tests, below) in
-      there p' (length (names ++ name ∷ [])) (omega (arith, is, lower, longer)) ∙ ap Some is
+      let other : eqb p (length xs) ≡ false = grind (arith, nat_tests, below) in
+      let is : p' ≡ p = pushed ∙ ap (λ t. cond t (length xs + cond (test x) 0 1) p) other in
+      let lower : p < length xs = grind (arith, nat_tests, below) in
+      there p' (length (xs ++ x ∷ [])) (omega (arith, is, lower, longer)) ∙ ap Some is
   by_test false above true e =
-      let at : p ≡ length names = omega (arith, prefix_len-le-length (λ x. not (bytes_eq q x)) names, above_is above) in
-      let equal : eqb p (length names) ≡ true = grind (arith, nat_tests, at) in
-      let is : p' ≡ length names = pushed ∙ ap (λ t. cond t (length names + cond (bytes_eq q name) 0 1) p) equal ∙ ap (λ t. length names + cond t 0 1) e ∙ omega arith in
-      there p' (length (names ++ name ∷ [])) (omega (arith, is, longer)) ∙ ap Some is
+      let at : p ≡ length xs = omega (arith, prefix_len-le-length (λ y. not (test y)) xs, above_is above) in
+      let equal : eqb p (length xs) ≡ true = grind (arith, nat_tests, at) in
+      let is : p' ≡ length xs = pushed ∙ ap (λ t. cond t (length xs + cond (test x) 0 1) p) equal ∙ ap (λ t. length xs + cond t 0 1) e ∙ omega arith in
+      there p' (length (xs ++ x ∷ [])) (omega (arith, is, longer)) ∙ ap Some is
   by_test false above false e =
-      let at : p ≡ length names = omega (arith, prefix_len-le-length (λ x. not (bytes_eq q x)) names, above_is above) in
-      let equal : eqb p (length names) ≡ true = grind (arith, nat_tests, at) in
-      let is : p' ≡ length names + 1 = pushed ∙ ap (λ t. cond t (length names + cond (bytes_eq q name) 0 1) p) equal ∙ ap (λ t. length names + cond t 0 1) e in
-      past p' (length (names ++ name ∷ [])) (omega (arith, is, longer))
+      let at : p ≡ length xs = omega (arith, prefix_len-le-length (λ y. not (test y)) xs, above_is above) in
+      let equal : eqb p (length xs) ≡ true = grind (arith, nat_tests, at) in
+      let is : p' ≡ length xs + 1 = pushed ∙ ap (λ t. cond t (length xs + cond (test x) 0 1) p) equal ∙ ap (λ t. length xs + cond t 0 1) e in
+      past p' (length (xs ++ x ∷ [])) (omega (arith, is, longer))
 
 pub more_places : (first after : List (List ℕ × ℕ)) (names all : List (List ℕ)) (name : List ℕ) (place : ℕ) → ArePlaces first names → place ≡ length names → all ≡ names ++ name ∷ []
     → after ≡ with_value first name place → ArePlaces after all
@@ -98,4 +98,4 @@ more_places first after names all name place are at longer is q =
     ap (λ l. value_of l q) is ∙ value_of-with first name q place
     ∙ ap (λ o. first_of o (if bytes_eq q name then Some place else None)) (are q)
     ∙ ap (λ n. first_of (position (bytes_eq q) names) (if bytes_eq q name then Some n else None)) at
-    ∙ sym (position-push q name names) ∙ ap (position (bytes_eq q)) (sym longer)
+    ∙ sym (position-push (bytes_eq q) name names) ∙ ap (position (bytes_eq q)) (sym longer)

@@ -1,5 +1,5 @@
 -- Values by name, of which the first of a name counts.
-use Rattle.std.specs.Prelude.{ℕ, Bool, List, [], ◌∷◌, ◌++◌, is_some, Option, Some, None, bytes_eq, if◌then◌else◌}
+use Rattle.std.specs.Prelude.{ℕ, List, [], ◌∷◌, ◌++◌, is_some, Option, Some, None, bytes_eq, if◌then◌else◌}
 use Rattle.std.specs.Coded.{Coded, coded×, coded_ℕ, coded_list}
 
 abbrev pub named_code : {V : Type 0} → Coded V → Coded (List (List ℕ × V))
