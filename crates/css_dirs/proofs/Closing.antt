@@ -1,9 +1,11 @@
 -- The search comes to what is reached.
-use Rattle.std.proofs.Common.{◌≡◌, ◌≢◌, ℕ, zero, suc, ◌+◌, ◌<◌, ◌≤◌, ◌⊎◌, inl, inr, ◌↔◌, Bool, true, false, ◌||◌, List, [], ◌∷◌, ◌++◌, length, get_or, set, nat_eq, if◌then◌else◌, refl, sym, ap, ◌∙◌, subst, arith, length-append, length-set}
+use Rattle.std.proofs.Common.{◌≡◌, ◌≢◌, ℕ, zero, suc, ◌+◌, ◌<◌, ◌≤◌, ◌⊎◌, inl, inr, ◌↔◌, Bool, true, false, ◌||◌, List, [], ◌∷◌, ◌++◌, length, map, Vec, Global, vec_len, get_or, set, nat_eq, if◌then◌else◌, refl, sym, ap, ◌∙◌, subst, arith, length-append, length-set}
 use Rattle.std.specs.List.{list_any}
-use Rattle.std.proofs.lemmas.List.{get_or-set_same, get_or-set_other}
+use Rattle.std.proofs.lemmas.List.{get_or-map, get_or-set_same, get_or-set_other}
 use Rattle.std.proofs.lemmas.Bool.Decides.{nat_tests}
 use Rattle.css_dirs.specs.Closure.{is_marked, is_in, steps_to, Reached, Itself, Further, Search, marked, all_marked, unmarked, left, IsSearch}
+
+-- ---- tests
 
 or_true : (a b : Bool) → (a || b) ≡ true → (a ≡ true) ⊎ (b ≡ true)
 or_true true b e = inl refl
@@ -19,30 +21,35 @@ or_right false b e = e
 
 -- ---- numbers among others
 
+in_front_by : (k x : ℕ) (xs ys : List ℕ) → (is_in k xs ≡ true → is_in k (xs ++ ys) ≡ true) → (nat_eq k x ≡ true) ⊎ (is_in k xs ≡ true) → is_in k (x ∷ xs ++ ys) ≡ true
+in_front_by k x xs ys others (inl same) = or_left (nat_eq k x) (is_in k (xs ++ ys)) same
+in_front_by k x xs ys others (inr more) = or_right (nat_eq k x) (is_in k (xs ++ ys)) (others more)
+
 pub in_front : (k : ℕ) (xs ys : List ℕ) → is_in k xs ≡ true → is_in k (xs ++ ys) ≡ true
 in_front k [] ys e = absurd cc
-in_front k (x ∷ xs) ys e = by_case (or_true (nat_eq k x) (is_in k xs) e) where
-  by_case : (nat_eq k x ≡ true) ⊎ (is_in k xs ≡ true) → is_in k (x ∷ xs ++ ys) ≡ true
-  by_case (inl same) = or_left (nat_eq k x) (is_in k (xs ++ ys)) same
-  by_case (inr more) = or_right (nat_eq k x) (is_in k (xs ++ ys)) (in_front k xs ys more)
+in_front k (x ∷ xs) ys e = in_front_by k x xs ys (in_front k xs ys) (or_true (nat_eq k x) (is_in k xs) e)
 
 pub in_last : (k : ℕ) (xs : List ℕ) → is_in k (xs ++ k ∷ []) ≡ true
 in_last k [] = let same : nat_eq k k ≡ true = grind (arith, nat_tests) in or_left (nat_eq k k) false same
 in_last k (x ∷ xs) = or_right (nat_eq k x) (is_in k (xs ++ k ∷ [])) (in_last k xs)
 
 -- in front, or it is the last
+alone_by : (j k : ℕ) → (nat_eq j k ≡ true) ⊎ (false ≡ true) → (is_in j [] ≡ true) ⊎ (j ≡ k)
+alone_by j k (inl same) = inr (grind (arith, nat_tests, same))
+alone_by j k (inr never) = absurd cc
+
+in_rest_by : (j k x : ℕ) (xs : List ℕ) → (is_in j xs ≡ true) ⊎ (j ≡ k) → (is_in j (x ∷ xs) ≡ true) ⊎ (j ≡ k)
+in_rest_by j k x xs (inl more) = inl (or_right (nat_eq j x) (is_in j xs) more)
+in_rest_by j k x xs (inr same) = inr same
+
+in_both_by : (j k x : ℕ) (xs : List ℕ) → (is_in j (xs ++ k ∷ []) ≡ true → (is_in j xs ≡ true) ⊎ (j ≡ k)) → (nat_eq j x ≡ true) ⊎ (is_in j (xs ++ k ∷ []) ≡ true)
+    → (is_in j (x ∷ xs) ≡ true) ⊎ (j ≡ k)
+in_both_by j k x xs others (inl same) = inl (or_left (nat_eq j x) (is_in j xs) same)
+in_both_by j k x xs others (inr more) = in_rest_by j k x xs (others more)
+
 pub in_both : (j k : ℕ) (xs : List ℕ) → is_in j (xs ++ k ∷ []) ≡ true → (is_in j xs ≡ true) ⊎ (j ≡ k)
-in_both j k [] e = by_case (or_true (nat_eq j k) false e) where
-  by_case : (nat_eq j k ≡ true) ⊎ (false ≡ true) → (is_in j [] ≡ true) ⊎ (j ≡ k)
-  by_case (inl same) = inr (grind (arith, nat_tests, same))
-  by_case (inr no) = absurd cc
-in_both j k (x ∷ xs) e = by_case (or_true (nat_eq j x) (is_in j (xs ++ k ∷ [])) e) where
-  by_rest : (is_in j xs ≡ true) ⊎ (j ≡ k) → (is_in j (x ∷ xs) ≡ true) ⊎ (j ≡ k)
-  by_rest (inl more) = inl (or_right (nat_eq j x) (is_in j xs) more)
-  by_rest (inr same) = inr same
-  by_case : (nat_eq j x ≡ true) ⊎ (is_in j (xs ++ k ∷ []) ≡ true) → (is_in j (x ∷ xs) ≡ true) ⊎ (j ≡ k)
-  by_case (inl same) = inl (or_left (nat_eq j x) (is_in j xs) same)
-  by_case (inr more) = by_rest (in_both j k xs more)
+in_both j k [] e = alone_by j k (or_true (nat_eq j k) false e)
+in_both j k (x ∷ xs) e = in_both_by j k x xs (in_both j k xs) (or_true (nat_eq j x) (is_in j (xs ++ k ∷ [])) e)
 
 -- ---- marks
 
@@ -63,15 +70,16 @@ stays_set (m ∷ marks) zero (suc j) e = e
 stays_set (m ∷ marks) (suc k) zero e = e
 stays_set (m ∷ marks) (suc k) (suc j) e = stays_set marks k j e
 
+next_only : (marks : List Bool) (k j : ℕ) → (is_marked marks j ≡ true) ⊎ (j ≡ k) → (is_marked marks j ≡ true) ⊎ (suc j ≡ suc k)
+next_only marks k j (inl h) = inl h
+next_only marks k j (inr same) = inr (ap suc same)
+
 only_set : (marks : List Bool) (k j : ℕ) → is_marked (set marks k true) j ≡ true → (is_marked marks j ≡ true) ⊎ (j ≡ k)
 only_set [] k j e = absurd cc
 only_set (m ∷ marks) zero zero e = inr refl
 only_set (m ∷ marks) zero (suc j) e = inl e
 only_set (m ∷ marks) (suc k) zero e = inl e
-only_set (m ∷ marks) (suc k) (suc j) e = by_rest (only_set marks k j e) where
-  by_rest : (is_marked marks j ≡ true) ⊎ (j ≡ k) → (is_marked marks j ≡ true) ⊎ (suc j ≡ suc k)
-  by_rest (inl h) = inl h
-  by_rest (inr same) = inr (ap suc same)
+only_set (m ∷ marks) (suc k) (suc j) e = next_only marks k j (only_set marks k j e)
 
 fewer_unmarked : (marks : List Bool) (k : ℕ) → k < length marks → is_marked marks k ≡ false → unmarked (set marks k true) + 1 ≡ unmarked marks
 fewer_unmarked [] k below e = omega (arith, below)
@@ -105,7 +113,7 @@ nothing s = record {
 alone : (k j : ℕ) → is_in j (k ∷ []) ≡ true → j ≡ k
 alone k j e = by_case (in_both j k [] e) where
   by_case : (is_in j [] ≡ true) ⊎ (j ≡ k) → j ≡ k
-  by_case (inl no) = absurd cc
+  by_case (inl never) = absurd cc
   by_case (inr same) = same
 
 one : (s : Search) (k : ℕ) → k < length s.marks → Became (k ∷ []) s (marked s k)
@@ -133,6 +141,7 @@ one s k below = by_test (is_marked s.marks k) refl where
     new_by j (inl h) = inl h
     new_by j (inr same) =
         inr (ap (λ i. is_in i (k ∷ [])) same ∙ in_last k [], ap (λ i. is_in i (s.todo ++ k ∷ [])) same ∙ in_last k s.todo)
+
     seen_by : (j : ℕ) → (is_in j s.todo ≡ true) ⊎ (j ≡ k) → (is_in j s.todo ≡ true) ⊎ (is_marked (set s.marks k true) j ≡ true)
     seen_by j (inl h) = inl h
     seen_by j (inr same) = inr (ap (is_marked (set s.marks k true)) same ∙ is_set s.marks k below)
@@ -150,15 +159,19 @@ both k row s t u p q = record {
   come_by : (j : ℕ) → (nat_eq j k ≡ true) ⊎ (is_in j row ≡ true) → is_marked u.marks j ≡ true
   come_by j (inl same) = q.stay j (p.come j (or_left (nat_eq j k) false same))
   come_by j (inr more) = q.come j more
+
   first_by : (j : ℕ) → (is_marked s.marks j ≡ true) ⊎ ((is_in j (k ∷ []) ≡ true) × (is_in j t.todo ≡ true)) → (is_marked s.marks j ≡ true) ⊎ ((is_in j (k ∷ row) ≡ true) × (is_in j u.todo ≡ true))
   first_by j (inl h) = inl h
   first_by j (inr h) = inr (in_front j (k ∷ []) row h.0, q.wait j h.1)
+
   new_by : (j : ℕ) → (is_marked t.marks j ≡ true) ⊎ ((is_in j row ≡ true) × (is_in j u.todo ≡ true)) → (is_marked s.marks j ≡ true) ⊎ ((is_in j (k ∷ row) ≡ true) × (is_in j u.todo ≡ true))
   new_by j (inl h) = first_by j (p.new j h)
   new_by j (inr h) = inr (or_right (nat_eq j k) (is_in j row) h.0, h.1)
+
   waited_by : (j : ℕ) → (is_in j s.todo ≡ true) ⊎ (is_marked t.marks j ≡ true) → (is_in j s.todo ≡ true) ⊎ (is_marked u.marks j ≡ true)
   waited_by j (inl h) = inl h
   waited_by j (inr h) = inr (q.stay j h)
+
   seen_by : (j : ℕ) → (is_in j t.todo ≡ true) ⊎ (is_marked u.marks j ≡ true) → (is_in j s.todo ≡ true) ⊎ (is_marked u.marks j ≡ true)
   seen_by j (inl h) = waited_by j (p.seen j h)
   seen_by j (inr h) = inr h
@@ -186,23 +199,51 @@ module _ (steps : List (List ℕ)) (from : List Bool) where
   } where
     is_k : is_marked s.marks k ≡ true
     is_k = is.seen k (ap (is_in k) popped ∙ in_last k rest)
+
     sound_by : (j : ℕ) → (is_marked s.marks j ≡ true) ⊎ ((is_in j row ≡ true) × (is_in j t.todo ≡ true)) → Reached steps from j
     sound_by j (inl h) = is.sound j h
     sound_by j (inr h) = Further (is.sound k is_k) (ap (is_in j) (sym of) ∙ h.0)
+
     seen_by : (j : ℕ) → (is_in j rest ≡ true) ⊎ (is_marked t.marks j ≡ true) → is_marked t.marks j ≡ true
     seen_by j (inl h) = b.stay j (is.seen j (ap (is_in j) popped ∙ in_front j rest (k ∷ []) h))
     seen_by j (inr h) = h
+
     waiting_by : (j : ℕ) → (is_in j rest ≡ true) ⊎ (j ≡ k) → (is_in j t.todo ≡ true) ⊎ ((i : ℕ) → steps_to steps j i ≡ true → is_marked t.marks i ≡ true)
     waiting_by j (inl h) = inl (b.wait j h)
     waiting_by j (inr same) = inr (λ i h. b.come i (ap (is_in i) of ∙ ap (λ n. steps_to steps n i) (sym same) ∙ h))
+
     old_by : (j : ℕ) → (is_in j s.todo ≡ true) ⊎ ((i : ℕ) → steps_to steps j i ≡ true → is_marked s.marks i ≡ true)
         → (is_in j t.todo ≡ true) ⊎ ((i : ℕ) → steps_to steps j i ≡ true → is_marked t.marks i ≡ true)
     old_by j (inl h) = waiting_by j (in_both j k rest (ap (is_in j) (sym popped) ∙ h))
     old_by j (inr h) = inr (λ i e. b.stay i (h i e))
+
     open_by : (j : ℕ) → (is_marked s.marks j ≡ true) ⊎ ((is_in j row ≡ true) × (is_in j t.todo ≡ true))
         → (is_in j t.todo ≡ true) ⊎ ((i : ℕ) → steps_to steps j i ≡ true → is_marked t.marks i ≡ true)
     open_by j (inl h) = old_by j (is.open_or_closed j h)
     open_by j (inr h) = inl h.1
+
+  -- a number that is to be followed is one of them
+  pub popped_within : (s : Search) (k : ℕ) (rest : List ℕ) → IsSearch steps from s → s.todo ≡ rest ++ k ∷ [] → k < length from
+  popped_within s k rest is popped =
+      let within = marked_within s.marks k (is.seen k (ap (is_in k) popped ∙ in_last k rest)) in
+      let long = is.long in
+      omega (arith, within, long)
+
+  pub smaller : (marks : List Bool) (k : ℕ) (todo rest row : List ℕ) (t : Search) → todo ≡ rest ++ k ∷ [] → Became row (record { marks = marks; todo = rest }) t
+      → left t < left (record { marks = marks; todo = todo })
+  smaller marks k todo rest row t popped b =
+      let same = b.same in
+      let longer = length-append rest (k ∷ []) in
+      let many : length todo ≡ length (rest ++ k ∷ []) = ap (λ l. length l) popped in
+      omega (arith, same, longer, many)
+
+  -- one number is followed: the search goes on, and is nearer to its end
+  pub one_step : (marks : List Bool) (todo rest : List ℕ) (k : ℕ) (row : List ℕ) (t : Search) → IsSearch steps from (record { marks = marks; todo = todo }) → todo ≡ rest ++ k ∷ []
+      → row ≡ get_or steps k [] → ((j : ℕ) → is_in j row ≡ true → j < length marks) → t ≡ all_marked (record { marks = marks; todo = rest }) row
+      → IsSearch steps from t × (left t < left (record { marks = marks; todo = todo }))
+  one_step marks todo rest k row t is popped of below comes =
+      let b = subst (Became row (record { marks = marks; todo = rest })) (sym comes) (became row (record { marks = marks; todo = rest }) below) in
+      (followed (record { marks = marks; todo = todo }) k rest row t is popped of b, smaller marks k todo rest row t popped b)
 
   -- it begins with what is marked
   pub begins : (todo : List ℕ) → ((k : ℕ) → is_in k todo ≡ is_marked from k) → IsSearch steps from (record { marks = from; todo = todo })
@@ -218,9 +259,56 @@ module _ (steps : List (List ℕ)) (from : List Bool) where
   all_reached marks is k (Itself h) = is.starts k h
   all_reached marks is k (Further {j} r h) = by_case (is.open_or_closed j (all_reached marks is j r)) where
     by_case : (is_in j [] ≡ true) ⊎ ((i : ℕ) → steps_to steps j i ≡ true → is_marked marks i ≡ true) → is_marked marks k ≡ true
-    by_case (inl no) = absurd cc
+    by_case (inl never) = absurd cc
     by_case (inr closed) = closed k h
 
   -- where nothing is left to follow, what is marked is what is reached
   pub ends : (marks : List Bool) → IsSearch steps from (record { marks = marks; todo = [] }) → (k : ℕ) → (is_marked marks k ≡ true) ↔ Reached steps from k
   ends marks is k = (is.sound k, all_reached marks is k)
+
+-- ---- rows, and the marked numbers in order
+
+pub row_at : (steps : List (Vec ℕ Global)) (n : ℕ) (v : Vec ℕ Global) → n < length steps → v ≡ get_or steps n v → v.items ≡ get_or (map (λ row. row.items) steps) n []
+row_at steps n v below is = ap (λ row. row.items) is ∙ sym (get_or-map (λ (row : Vec ℕ Global). row.items) steps n v [] below)
+
+abbrev pub marked_from : ℕ → List Bool → List ℕ
+marked_from i [] = []
+marked_from i (true ∷ marks) = i ∷ marked_from (1 + i) marks
+marked_from i (false ∷ marks) = marked_from (1 + i) marks
+
+none_below : (k i : ℕ) (marks : List Bool) → k < i → is_in k (marked_from i marks) ≡ false
+none_below k i [] below = refl
+none_below k i (true ∷ marks) below =
+    let other : nat_eq k i ≡ false = grind (arith, nat_tests, below) in
+    ap (λ b. b || is_in k (marked_from (1 + i) marks)) other ∙ none_below k (1 + i) marks (omega (arith, below))
+none_below k i (false ∷ marks) below = none_below k (1 + i) marks (omega (arith, below))
+
+in_marked : (i k : ℕ) (marks : List Bool) → is_in (i + k) (marked_from i marks) ≡ is_marked marks k
+in_marked i zero [] = refl
+in_marked i (suc k) [] = refl
+in_marked i zero (true ∷ marks) = let same : nat_eq (i + 0) i ≡ true = grind (arith, nat_tests) in ap (λ b. b || is_in (i + 0) (marked_from (1 + i) marks)) same
+in_marked i zero (false ∷ marks) = none_below (i + 0) (1 + i) marks (omega arith)
+in_marked i (suc k) (true ∷ marks) =
+    let other : nat_eq (i + suc k) i ≡ false = grind (arith, nat_tests) in
+    let moved : i + suc k ≡ 1 + i + k = omega arith in
+    ap (λ b. b || is_in (i + suc k) (marked_from (1 + i) marks)) other ∙ ap (λ n. is_in n (marked_from (1 + i) marks)) moved ∙ in_marked (1 + i) k marks
+in_marked i (suc k) (false ∷ marks) =
+    let moved : i + suc k ≡ 1 + i + k = omega arith in
+    ap (λ n. is_in n (marked_from (1 + i) marks)) moved ∙ in_marked (1 + i) k marks
+
+pub all_marked_in : (todo : List ℕ) (marks : List Bool) → todo ≡ marked_from 0 marks → (k : ℕ) → is_in k todo ≡ is_marked marks k
+all_marked_in todo marks is k =
+    let moved : k ≡ 0 + k = omega arith in
+    ap (is_in k) is ∙ ap (λ n. is_in n (marked_from 0 marks)) moved ∙ in_marked 0 k marks
+
+pub none_left : (v : Vec ℕ Global) → vec_len v ≡ 0 → v.items ≡ []
+none_left v none = by_items v.items none where
+  by_items : (xs : List ℕ) → length xs ≡ 0 → xs ≡ []
+  by_items [] e = refl
+  by_items (x ∷ xs) e = omega (arith, e)
+
+-- what stands at a place is in the list
+pub at_in : (xs : List ℕ) (i : ℕ) → i < length xs → is_in (get_or xs i 0) xs ≡ true
+at_in [] i below = omega (arith, below)
+at_in (x ∷ xs) zero below = let same : nat_eq x x ≡ true = grind (arith, nat_tests) in or_left (nat_eq x x) (is_in x xs) same
+at_in (x ∷ xs) (suc i) below = or_right (nat_eq (get_or xs i 0) x) (is_in (get_or xs i 0) xs) (at_in xs i (omega (arith, below)))

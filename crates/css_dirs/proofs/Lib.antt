@@ -1,3 +1,4 @@
 pub mod Joins
 pub mod Rows
 pub mod Closing
+pub mod Calls

@@ -1,5 +1,5 @@
 -- THE rules on tasks: all places of a program where one may be broken, in order of text, and the first where one is.
-use Rattle.std.specs.Prelude.{◌≡◌, ℕ, Bool, true, not, nat_lt, ◌⊎◌, List, [], ◌∷◌, ◌++◌, map, length, bytes_eq, is_some, Option, Some, None, if◌then◌else◌, All}
+use Rattle.std.specs.Prelude.{◌≡◌, ℕ, Bool, true, not, ◌&&◌, nat_lt, ◌⊎◌, List, [], ◌∷◌, ◌++◌, map, length, bytes_eq, is_some, Option, Some, None, if◌then◌else◌, All}
 use Rattle.css_base.specs.declared.static_fault.StaticName.{StaticName}
 use Rattle.css_base.specs.declared.static_fault.StaticName.TheVariants.{NoDirection, BadClause, TaskGlobal, TaskOutside, NestedTask, NotVoid, TooManyArguments}
 use Rattle.css_base.specs.declared.static_fault.StaticFault.{StaticFault}

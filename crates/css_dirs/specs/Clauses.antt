@@ -94,6 +94,15 @@ is_of_address unaries.Minus = false
 is_of_address unaries.Complement = false
 is_of_address unaries.Not = false
 
+-- an integer parameter outside `input`, or a pointer to void
+abbrev pub is_unfit : Direction → Parameter → Bool
+is_unfit direction p = if is_pointer p then points_to_void p else not (is_input direction)
+
+-- it names no parameter, or one that doesn't fit
+abbrev pub names_unfit : Direction → Option Parameter → Bool
+names_unfit direction None = true
+names_unfit direction (Some p) = is_unfit direction p
+
 module _ (ps : List Parameter) where
   -- a pointer parameter stands in no clause
   abbrev pub lacks_direction : List Named → Bool
@@ -123,15 +132,6 @@ module _ (ps : List Parameter) where
     pub are_foreign : Expressions → Bool
     are_foreign End = false
     are_foreign (More e others) = is_foreign e || are_foreign others
-
-  -- an integer parameter outside `input`, or a pointer to void
-  abbrev pub is_unfit : Direction → Parameter → Bool
-  is_unfit direction p = if is_pointer p then points_to_void p else not (is_input direction)
-
-  -- it names no parameter, or one that doesn't fit
-  abbrev pub names_unfit : Direction → Option Parameter → Bool
-  names_unfit direction None = true
-  names_unfit direction (Some p) = is_unfit direction p
 
   abbrev pub is_bad : Named → Bool
   is_bad a = names_unfit a.direction (parameter_named a.name ps) || list_any is_foreign a.sizes

@@ -1,5 +1,5 @@
 -- Numbers that are reached from some numbers by any number of steps.
-use Rattle.std.specs.Prelude.{◌≡◌, ℕ, Bool, true, false, List, [], ◌∷◌, ◌++◌, map, get_or, set, length, nat_eq, Vec, Global, ◌<◌, ◌+◌, ◌⊎◌, if◌then◌else◌}
+use Rattle.std.specs.Prelude.{◌≡◌, ℕ, Bool, true, false, List, [], ◌∷◌, ◌++◌, map, get_or, set, length, nat_eq, ◌<◌, ◌+◌, ◌⊎◌, if◌then◌else◌}
 use Rattle.std.specs.List.{list_any}
 
 -- the number of a list is marked

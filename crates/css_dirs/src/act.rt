@@ -1,29 +1,38 @@
 //! What the text of a function does that a task may not do.
 ghost use Rattle.std.specs.Prelude.{◌≡◌, ◌++◌, ◌∷◌, [], OnOk};
+ghost use Rattle.css_dirs.specs.Shapes.{acts_of, act_by};
 
 use css_base::{Line, NoMemory};
 
-/// An act, with the line of its statement.
+/// A kind of act.
 #[derive(Clone, Copy)]
-pub(crate) enum Act<'t> {
+pub(crate) enum Does {
     /// An object outside all functions is named.
-    NamesGlobal {
-        line: Line,
-    },
-    /// The function of this name, which may be the library's, is called.
-    Calls {
-        line: Line,
-        name: &'t [u8],
-    },
+    NamesGlobal,
+    /// A function, which may be the library's, is called.
+    Calls,
     /// A directive stands there.
-    Directs {
-        line: Line,
-    },
+    Directs,
+}
+
+/// An act, with the line of its statement, and the name of the object or function.
+#[derive(Drop)]
+pub(crate) struct Act<'t> {
+    pub does: Does,
+    pub line: Line,
+    pub name: &'t [u8],
 }
 
 /// Puts an act behind others.
-pub(crate) fn add<'t>(acts: &mut Vec<Act<'t>>, next: Act<'t>) -> Result<(), NoMemory>
-    ensures { OnOk result (acts.new.items ≡ acts.old.items ++ next ∷ []) }
+pub(crate) fn add<'t>(
+    acts: &mut Vec<Act<'t>>,
+    does: Does,
+    line: Line,
+    name: &'t [u8],
+) -> Result<(), NoMemory>
+    ensures { OnOk result (acts_of acts.new.items ≡ acts_of acts.old.items ++ act_by does line name.now ∷ []) }
 {
-    Ok(acts.push(next)?)
+    let next = Act { does, line, name };
+    acts.push(next)?;
+    Ok(())
 }

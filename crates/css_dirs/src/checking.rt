@@ -1,15 +1,15 @@
 //! The rules on tasks as a whole.
-ghost use Rattle.std.specs.Prelude.{◌≡◌, map, length, IsErrOf, OnOk};
+ghost use Rattle.std.specs.Prelude.{◌≡◌, map, length, IsErrOf, OnOk, IfOk, MatchOption};
 ghost use Rattle.css_dirs.specs.Graphs.{is_reached, first_in};
 ghost use Rattle.css_base.specs.declared.static_fault.StaticFault.{StaticFault as Fault};
 ghost use Rattle.css_tree.specs.Shapes as shapes;
 ghost use Rattle.css_dirs.specs.Breaches.{IsKept, IsBroken};
 
-use crate::directives::directives;
-use crate::numbers::{defined, numbers, task_items, texts};
+use crate::directives::read_directives;
+use crate::numbers::{all_texts, defined, numbers, task_items};
 use crate::reach::reached;
 use crate::reads::Reads;
-use css_base::{FrontFault, StaticFault};
+use css_base::{FrontFault, NoMemory, StaticFault};
 use css_scopes::Firsts;
 use css_tree::{Item, Tree};
 use std::alloc::Global;
@@ -20,18 +20,29 @@ pub fn check_tasks<R: Reads>(alloc: Global, tree: &Tree, reads: &R) -> Result<()
     ensures kept { OnOk result (IsKept (R.read reads.now) (shapes.tree tree.now)) }
     ensures broken { (f : Fault) → IsErrOf result (FrontFault.Static f) → IsBroken (R.read reads.now) (shapes.tree tree.now) f }
 {
-    let items = tree.items.as_slice();
-    let of_directives = directives(alloc, items, reads)?;
+    match broken_by(alloc, tree.items.as_slice(), reads) {
+        Ok(None) => Ok(()),
+        Ok(Some(fault)) => Err(FrontFault::Static(fault)),
+        Err(_) => Err(FrontFault::NoMemory),
+    }
+}
+
+/// The first rule on tasks that items break, if they break any.
+fn broken_by<R: Reads>(
+    alloc: Global,
+    items: &[Item],
+    reads: &R,
+) -> Result<Option<StaticFault>, NoMemory>
+    ensures { IfOk result (λ fault. MatchOption fault (IsKept (R.read reads.now) (map shapes.item items.now)) (IsBroken (R.read reads.now) (map shapes.item items.now))) }
+{
+    let of_directives = read_directives(alloc, items, reads)?;
     let numbers = numbers(alloc, items)?;
-    let of_texts = texts(alloc, items, reads, &of_directives.tasks, &numbers)?;
+    let of_texts = all_texts(alloc, items, reads, &of_directives.tasks, &numbers)?;
     let from = task_items(alloc, items, &of_directives.tasks, &numbers)?;
     let marks = reached(alloc, of_texts.steps.as_slice(), from.as_slice())?;
     let own = of_directives.faults.as_slice();
     let inside = of_texts.faults.as_slice();
-    match first_fault(items, own, inside, &numbers, marks.as_slice()) {
-        Some(fault) => Err(FrontFault::Static(fault)),
-        None => Ok(()),
-    }
+    Ok(first_fault(items, own, inside, &numbers, marks.as_slice()))
 }
 
 /// The first fault of items in order: of an item's directive, or of its text where it is reached.

@@ -5,7 +5,7 @@ ghost use Rattle.css_tree.specs.Shapes as shapes;
 ghost use Rattle.css_dirs.specs.Breaches.{first_of, in_first};
 ghost use Rattle.css_dirs.specs.Clauses.{argument_name, sizes_of, named, named_in, names_of, stands, lacks_direction, is_input, names_unfit, is_bad, has_bad, is_foreign};
 ghost use Rattle.css_dirs.specs.Listed.{named_of};
-ghost use Rattle.css_dirs.specs.Tables.{HasNames};
+ghost use Rattle.css_dirs.specs.Tables.{HasNames, AreByName};
 
 use crate::foreign::{is_foreign, some_foreign};
 use crate::parameters::{Parameters, is_pointer, points_to_void};
@@ -35,9 +35,9 @@ pub(crate) fn in_first<'t>(
     let Directive::Task { clauses, .. } = directive else {
         return Ok(None);
     };
-    let all = listed(alloc, clauses.as_slice())?;
+    let all = all_listed(alloc, clauses.as_slice())?;
     let ps = Parameters::new(alloc, parameters)?;
-    if lacks_direction(alloc, &ps, all.as_slice())? {
+    if lacks_direction(alloc, parameters, all.as_slice())? {
         return Ok(Some(fault(StaticName::NoDirection, line)));
     }
     if has_bad(alloc, &ps, all.as_slice())? {
@@ -60,7 +60,7 @@ pub(crate) fn fault(name: StaticName, line: Line) -> StaticFault
 }
 
 /// What stands in clauses, in order.
-fn listed<'t>(alloc: Global, clauses: &'t [Clause]) -> Result<Vec<Listed<'t>>, NoMemory>
+fn all_listed<'t>(alloc: Global, clauses: &'t [Clause]) -> Result<Vec<Listed<'t>>, NoMemory>
     ensures { IfOk result (λ all. map named_of all.items ≡ named_in (map shapes.clause clauses.now)) }
 {
     let mut all = Vec::new(alloc);
@@ -123,16 +123,18 @@ fn names_of<'t>(alloc: Global, all: &[Listed<'t>]) -> Result<Firsts<'t, ()>, NoM
 /// Whether a pointer parameter stands in no clause.
 fn lacks_direction(
     alloc: Global,
-    ps: &Parameters<'_>,
+    parameters: &[Parameter],
     all: &[Listed<'_>],
 ) -> Result<bool, NoMemory>
-    ensures { IfOk result (λ lacks. lacks ≡ lacks_direction (map shapes.parameter ps.now.all.now) (map named_of all.now)) }
+    ensures { IfOk result (λ lacks. lacks ≡ lacks_direction (map shapes.parameter parameters.now) (map named_of all.now)) }
 {
     let table = names_of(alloc, all)?;
-    Ok(ps
-        .all
-        .iter()
-        .any(|parameter| is_pointer(parameter) && !stands(&table, &parameter.name)))
+    for parameter in parameters {
+        if is_pointer(parameter) && !stands(&table, &parameter.name) {
+            return Ok(true);
+        }
+    }
+    Ok(false)
 }
 
 /// Whether a parameter's name is one of these.
@@ -147,6 +149,7 @@ fn stands(table: &Firsts<'_, ()>, name: &Option<Bytes>) -> bool
 
 /// Whether one of those in clauses is bad, or names what an earlier one names.
 fn has_bad(alloc: Global, ps: &Parameters<'_>, all: &[Listed<'_>]) -> Result<bool, NoMemory>
+    requires { AreByName ps.now.by_name ps.now.all.now }
     ensures { IfOk result (λ has. has ≡ has_bad (map shapes.parameter ps.now.all.now) [] (map named_of all.now)) }
 {
     let mut earlier: Firsts<'_, ()> = Firsts::new(alloc);
@@ -162,7 +165,8 @@ fn has_bad(alloc: Global, ps: &Parameters<'_>, all: &[Listed<'_>]) -> Result<boo
 
 /// Whether it names no parameter, or one that doesn't fit, or has a dimension that may not be.
 fn is_bad(ps: &Parameters<'_>, listed: Listed<'_>) -> bool
-    ensures { result ≡ is_bad (map shapes.parameter ps.now.all.now) (named_of listed) }
+    requires { AreByName ps.now.by_name ps.now.all.now }
+    ensures { result ≡ is_bad (map shapes.parameter ps.now.all.now) (named_of listed.entry) }
 {
     names_unfit(listed.direction, ps.find(name_of(listed.argument)))
         || has_foreign(ps, listed.argument)
@@ -170,7 +174,7 @@ fn is_bad(ps: &Parameters<'_>, listed: Listed<'_>) -> bool
 
 /// Whether a parameter that is named isn't there, or doesn't fit.
 fn names_unfit(direction: Direction, parameter: Option<&Parameter>) -> bool
-    ensures { result ≡ names_unfit direction (option_map (λ p. shapes.parameter p.now) parameter) }
+    ensures { result ≡ names_unfit direction (option_map (λ p. shapes.parameter p.now) parameter.entry) }
 {
     match parameter {
         None => true,
@@ -196,6 +200,7 @@ fn is_input(direction: Direction) -> bool
 
 /// Whether a dimension uses what it may not.
 fn has_foreign(ps: &Parameters<'_>, argument: &Argument) -> bool
+    requires { AreByName ps.now.by_name ps.now.all.now }
     ensures { result ≡ list_any (is_foreign (map shapes.parameter ps.now.all.now)) (sizes_of (shapes.argument argument.now)) }
 {
     match argument {

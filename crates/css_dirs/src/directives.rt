@@ -24,7 +24,7 @@ pub(crate) struct Directives<'t> {
 }
 
 /// The directives of items in order.
-pub(crate) fn directives<'t, R: Reads>(
+pub(crate) fn read_directives<'t, R: Reads>(
     alloc: Global,
     items: &'t [Item],
     reads: &'t R,
@@ -66,7 +66,8 @@ fn directive_of<'t, R: Reads>(
             judged(alloc, first, mark, listed(parameters), gives_void, reads)
         }
         Item::Function {
-            directive: None, ..
+            directive: None,
+            ..
         }
         | Item::Declaration(_) => Ok(None),
     }
@@ -81,10 +82,16 @@ fn judged<'t, R: Reads>(
     gives_void: bool,
     reads: &'t R,
 ) -> Result<Option<StaticFault>, NoMemory>
-    ensures { IfOk result (λ fault. fault ≡ first_of (by_mark (R.read reads.now) (map shapes.parameter parameters.now) gives_void (shapes.mark mark.now) (option_map (λ m. shapes.mark m.now) first))) }
+    ensures { IfOk result (λ fault. fault ≡ first_of (by_mark (R.read reads.now) (map shapes.parameter parameters.now) gives_void (shapes.mark mark.now) (option_map (λ m. shapes.mark m.now) first.entry))) }
 {
     match first {
-        None => in_first(alloc, mark.line, parameters, gives_void, reads.directive(mark)),
+        None => in_first(
+            alloc,
+            mark.line,
+            parameters,
+            gives_void,
+            reads.directive(mark),
+        ),
         Some(first) => {
             if same_words(first.words.as_slice(), mark.words.as_slice()) {
                 Ok(None)

@@ -1,10 +1,10 @@
 //! The acts of expressions.
-ghost use Rattle.std.specs.Prelude.{◌≡◌, ◌++◌, OnOk, map, option_map};
+ghost use Rattle.std.specs.Prelude.{◌≡◌, ◌++◌, ◌∷◌, [], OnOk, map, option_map};
 ghost use Rattle.css_tree.specs.Shapes as shapes;
-ghost use Rattle.css_dirs.specs.Acts.{is_local, by_name, in_expression, in_optional, in_sizes, in_all};
+ghost use Rattle.css_dirs.specs.Acts.{Calls, is_local, by_name, in_expression, in_optional, in_sizes, in_all};
 ghost use Rattle.css_dirs.specs.Shapes.{acts_of, names};
 
-use crate::act::{Act, add};
+use crate::act::{Act, Does, add};
 use css_base::{Line, NoMemory};
 use css_scopes::Scope;
 use css_tree::Expression;
@@ -56,8 +56,7 @@ pub(crate) fn expression<'t>(
             ..
         } => {
             all(locals, line, arguments.as_slice(), acts)?;
-            let name = name.as_slice();
-            add(acts, Act::Calls { line, name })
+            call(line, name.as_slice(), acts)
         }
         Expression::Name { name, .. } => named(locals, line, name.as_slice(), acts),
         Expression::SizeofType { .. } | Expression::Number { .. } | Expression::Text { .. } => {
@@ -82,11 +81,18 @@ pub(crate) fn all<'t>(
     Ok(())
 }
 
+/// Puts a call behind others.
+fn call<'t>(line: Line, name: &'t [u8], acts: &mut Vec<Act<'t>>) -> Result<(), NoMemory>
+    ensures { OnOk result (acts_of acts.new.items ≡ acts_of acts.old.items ++ Calls line name.now ∷ []) }
+{
+    add(acts, Does::Calls, line, name)
+}
+
 /// Puts the act of a name behind others, where it isn't one of the function's own objects.
 fn named<'t>(
     locals: &Scope<'t, ()>,
     line: Line,
-    name: &[u8],
+    name: &'t [u8],
     acts: &mut Vec<Act<'t>>,
 ) -> Result<(), NoMemory>
     ensures { OnOk result (acts_of acts.new.items ≡ acts_of acts.old.items ++ by_name (is_local (names locals.now) name.now) line) }
@@ -94,7 +100,7 @@ fn named<'t>(
     if locals.is_seen(name) {
         return Ok(());
     }
-    add(acts, Act::NamesGlobal { line })
+    add(acts, Does::NamesGlobal, line, name)
 }
 
 /// Puts the acts of an expression that may be left out behind others.

@@ -2,6 +2,7 @@
 ghost use Rattle.std.specs.Prelude.{◌≡◌, map};
 ghost use Rattle.std.specs.List.{list_any};
 ghost use Rattle.css_tree.specs.Shapes as shapes;
+ghost use Rattle.css_dirs.specs.Tables.{AreByName};
 ghost use Rattle.css_dirs.specs.Clauses.{is_foreign, is_of_address, is_integer, parameter_named};
 
 use crate::parameters::{Parameters, is_pointer};
@@ -11,6 +12,7 @@ use css_tree::{Expression, UnaryOperator};
 /// levels.
 #[cycle(foreign)]
 pub(crate) fn is_foreign(ps: &Parameters<'_>, tree: &Expression) -> bool
+    requires { AreByName ps.now.by_name ps.now.all.now }
     ensures { result ≡ is_foreign (map shapes.parameter ps.now.all.now) (shapes.expression tree.now) }
 {
     match tree {
@@ -47,6 +49,7 @@ pub(crate) fn is_foreign(ps: &Parameters<'_>, tree: &Expression) -> bool
 /// Whether one of the expressions uses what it may not.
 #[cycle(foreign)]
 pub(crate) fn some_foreign(ps: &Parameters<'_>, expressions: &[Expression]) -> bool
+    requires { AreByName ps.now.by_name ps.now.all.now }
     ensures { result ≡ list_any (is_foreign (map shapes.parameter ps.now.all.now)) (map shapes.expression expressions.now) }
 {
     for each in expressions {
@@ -59,6 +62,7 @@ pub(crate) fn some_foreign(ps: &Parameters<'_>, expressions: &[Expression]) -> b
 
 /// Whether a name is an integer parameter's.
 fn is_integer(ps: &Parameters<'_>, name: &[u8]) -> bool
+    requires { AreByName ps.now.by_name ps.now.all.now }
     ensures { result ≡ is_integer (parameter_named name.now (map shapes.parameter ps.now.all.now)) }
 {
     match ps.find(name) {

@@ -4,11 +4,11 @@ ghost use Rattle.css_tree.specs.Shapes as shapes;
 ghost use Rattle.css_dirs.specs.Acts.{Act};
 ghost use Rattle.css_dirs.specs.Reached.{called, item_text};
 ghost use Rattle.css_dirs.specs.Breaches.{first_of, by_act, by_acts};
-ghost use Rattle.css_dirs.specs.Graphs.{AreNumbers, defined_by, is_number, row_of, numbers_of, starts, all_starts};
+ghost use Rattle.css_dirs.specs.Graphs.{AreNumbers, number_by, defined_by, is_number, row_of, numbers_of, starts, all_starts};
 ghost use Rattle.css_dirs.specs.Shapes.{acts_of, act};
 ghost use Rattle.css_scopes.specs.Firsts.{value_of};
 
-use crate::act::Act;
+use crate::act::{Act, Does};
 use crate::clauses::fault;
 use crate::directives::listed;
 use crate::reads::Reads;
@@ -97,7 +97,7 @@ pub(crate) struct Texts {
 }
 
 /// The texts of items in order.
-pub(crate) fn texts<'t, R: Reads>(
+pub(crate) fn all_texts<'t, R: Reads>(
     alloc: Global,
     items: &'t [Item],
     reads: &'t R,
@@ -142,19 +142,27 @@ fn row(alloc: Global, acts: &[Act<'_>], numbers: &Firsts<'_, u32>) -> Result<Vec
 {
     let mut row = Vec::new(alloc);
     for act in acts {
-        add_number(*act, numbers, &mut row)?;
+        add_number(act, numbers, &mut row)?;
     }
     Ok(row)
 }
 
 /// Puts the number of the function that an act calls behind others.
-fn add_number(done: Act<'_>, numbers: &Firsts<'_, u32>, row: &mut Vec<u32>) -> Result<(), NoMemory>
-    ensures { OnOk result (row.new.items ≡ row.old.items ++ numbers_of numbers.now (called (act done ∷ []))) }
+fn add_number(done: &Act<'_>, numbers: &Firsts<'_, u32>, row: &mut Vec<u32>) -> Result<(), NoMemory>
+    ensures { OnOk result (row.new.items ≡ row.old.items ++ numbers_of numbers.now (called (act done.now ∷ []))) }
 {
-    if let Act::Calls { name, .. } = done {
-        if let Some(number) = numbers.find(name) {
-            row.push(number)?;
-        }
+    match done.does {
+        Does::NamesGlobal | Does::Directs => Ok(()),
+        Does::Calls => add_found(numbers.find(done.name), row),
+    }
+}
+
+/// Puts a number that was found behind others.
+fn add_found(number: Option<u32>, row: &mut Vec<u32>) -> Result<(), NoMemory>
+    ensures { OnOk result (row.new.items ≡ row.old.items ++ number_by number) }
+{
+    if let Some(number) = number {
+        row.push(number)?;
     }
     Ok(())
 }
@@ -164,7 +172,7 @@ fn first_fault(acts: &[Act<'_>], tasks: &Firsts<'_, &Mark>) -> Option<StaticFaul
     ensures { result ≡ first_of (by_acts (λ name. is_some (value_of tasks.now name)) (acts_of acts.now)) }
 {
     for each in acts {
-        let fault = act_fault(*each, tasks);
+        let fault = act_fault(each, tasks);
         if fault.is_some() {
             return fault;
         }
@@ -173,17 +181,17 @@ fn first_fault(acts: &[Act<'_>], tasks: &Firsts<'_, &Mark>) -> Option<StaticFaul
 }
 
 /// The rule that an act breaks, if tasks reach it.
-fn act_fault(done: Act<'_>, tasks: &Firsts<'_, &Mark>) -> Option<StaticFault>
-    ensures { result ≡ first_of (by_act (λ name. is_some (value_of tasks.now name)) (act done)) }
+fn act_fault(done: &Act<'_>, tasks: &Firsts<'_, &Mark>) -> Option<StaticFault>
+    ensures { result ≡ first_of (by_act (λ name. is_some (value_of tasks.now name)) (act done.now)) }
 {
-    match done {
-        Act::NamesGlobal { line } => Some(fault(StaticName::TaskGlobal, line)),
-        Act::Directs { line } => Some(fault(StaticName::NestedTask, line)),
-        Act::Calls { line, name } => {
-            if library_of(name).is_some() {
-                Some(fault(StaticName::TaskOutside, line))
-            } else if tasks.find(name).is_some() {
-                Some(fault(StaticName::NestedTask, line))
+    match done.does {
+        Does::NamesGlobal => Some(fault(StaticName::TaskGlobal, done.line)),
+        Does::Directs => Some(fault(StaticName::NestedTask, done.line)),
+        Does::Calls => {
+            if library_of(done.name).is_some() {
+                Some(fault(StaticName::TaskOutside, done.line))
+            } else if tasks.find(done.name).is_some() {
+                Some(fault(StaticName::NestedTask, done.line))
             } else {
                 None
             }

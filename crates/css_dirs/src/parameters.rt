@@ -1,6 +1,7 @@
 //! The parameters of a task.
 ghost use Rattle.std.specs.Prelude.{◌≡◌, IfOk, map, option_map};
 ghost use Rattle.css_tree.specs.Shapes as shapes;
+ghost use Rattle.css_dirs.specs.Tables.{AreByName};
 ghost use Rattle.css_dirs.specs.Clauses.{parameter_named, is_pointer, points_to_void, says_void};
 
 use css_base::NoMemory;
@@ -13,16 +14,14 @@ use std::alloc::Global;
 #[derive(Drop)]
 pub(crate) struct Parameters<'t> {
     pub all: &'t [Parameter],
-    by_name: Firsts<'t, &'t Parameter>,
-    ghost use Rattle.std.specs.Prelude.{map};
-    ghost use Rattle.css_dirs.specs.Tables.{AreByName};
-    ghost tied: { AreByName by_name all.now },
+    pub by_name: Firsts<'t, &'t Parameter>,
 }
 
 impl<'t> Parameters<'t> {
     /// These parameters.
     pub(crate) fn new(alloc: Global, all: &'t [Parameter]) -> Result<Parameters<'t>, NoMemory>
-        ensures { IfOk result (λ ps. ps.all.now ≡ all.now) }
+        ensures all { IfOk result (λ ps. ps.all.now ≡ all.now) }
+        ensures tied { IfOk result (λ ps. AreByName ps.by_name ps.all.now) }
     {
         let by_name = by_name(alloc, all)?;
         Ok(Parameters { all, by_name })
@@ -30,6 +29,7 @@ impl<'t> Parameters<'t> {
 
     /// The first parameter of a name.
     pub(crate) fn find(&self, name: &[u8]) -> Option<&'t Parameter>
+        requires { AreByName self.now.by_name self.now.all.now }
         ensures { option_map (λ p. shapes.parameter p.now) result ≡ parameter_named name.now (map shapes.parameter self.now.all.now) }
     {
         self.by_name.find(name)
@@ -37,10 +37,7 @@ impl<'t> Parameters<'t> {
 }
 
 /// The parameters that have names by these.
-fn by_name<'t>(
-    alloc: Global,
-    all: &'t [Parameter],
-) -> Result<Firsts<'t, &'t Parameter>, NoMemory>
+fn by_name<'t>(alloc: Global, all: &'t [Parameter]) -> Result<Firsts<'t, &'t Parameter>, NoMemory>
     ensures { IfOk result (λ table. AreByName table all.now) }
 {
     let mut table = Firsts::new(alloc);

@@ -31,10 +31,8 @@ fn same_kind(a: &TokenKind, b: &TokenKind) -> bool
         (TokenKind::Word(x), TokenKind::Word(y))
         | (TokenKind::Text(x), TokenKind::Text(y))
         | (TokenKind::Punctuator(x), TokenKind::Punctuator(y)) => x.as_slice() == y.as_slice(),
-        (
-            TokenKind::Number { kind: s, value: v },
-            TokenKind::Number { kind: t, value: w },
-        ) => code_of(*s) == code_of(*t) && *v == *w,
+        (TokenKind::Number { kind: s, value: v }, TokenKind::Number { kind: t, value: w }) =>
+            code_of(*s) == code_of(*t) && *v == *w,
         (TokenKind::Character(x), TokenKind::Character(y)) => *x == *y,
         _ => false,
     }

@@ -5,7 +5,7 @@ ghost use Rattle.css_scopes.specs.Scopes.{IsOver};
 ghost use Rattle.css_dirs.specs.Acts.{in_directive, in_head, with_start, in_statement, in_entry, in_entries, with_entry};
 ghost use Rattle.css_dirs.specs.Shapes.{acts_of, names};
 
-use crate::act::{Act, add};
+use crate::act::{Act, Does, add};
 use crate::declarations::{declarators, started};
 use crate::expressions::{all, expression, optional};
 use crate::reads::Reads;
@@ -170,5 +170,5 @@ fn directive<'t>(
     if let Directive::Wait { addresses, .. } = read {
         all(locals, line, addresses.as_slice(), acts)?;
     }
-    add(acts, Act::Directs { line })
+    add(acts, Does::Directs, line, &[])
 }
