@@ -54,7 +54,7 @@ module _ (read : Mark → Directive) (tree : Tree) where
   -- ---- what is marked
 
   module _ (table : List (List ℕ × ℕ)) (are : AreNumbers table tree) (marks : List Bool)
-    (exact : (k : ℕ) → (is_marked marks k ≡ true) ↔ Reached (map (row_of read table) tree) (all_starts (is_task tree) table 0 tree) k) where
+      (exact : (k : ℕ) → (is_marked marks k ≡ true) ↔ Reached (map (row_of read table) tree) (all_starts (is_task tree) table 0 tree) k) where
     -- two names of one number are one
     one_name : (f g : List ℕ) (k : ℕ) → value_of table f ≡ Some k → value_of table g ≡ Some k → f ≡ g
     one_name f g k at at' =

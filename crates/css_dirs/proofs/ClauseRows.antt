@@ -8,7 +8,9 @@ use Rattle.css_tree.specs.declared.item.Parameter.{Parameter}
 use Rattle.css_tree.specs.Syntax as syntax
 use Rattle.css_tree.specs.Shapes as shapes
 use Rattle.css_scopes.specs.Firsts.{value_of, with_value}
-use Rattle.css_scopes.proofs.Found.{first_of, value_of-with}
+use Rattle.css_scopes.proofs.Found as found
+use Rattle.css_scopes.proofs.Found.{value_of-with}
+use Rattle.css_dirs.specs.Tables.{first_of, seen}
 use Rattle.css_dirs.specs.Clauses.{Named, named_in, is_named, parameter_named}
 
 -- what one clause names, before what the others name
@@ -18,7 +20,7 @@ named-more syntax.HighPriority cs = refl
 
 -- ---- names in a table
 
-some_first : {V : Type 0} (o : Option V) (v : V) (t : Bool) → is_some (first_of o (if t then Some v else None)) ≡ (is_some o || t)
+some_first : {V : Type 0} (o : Option V) (v : V) (t : Bool) → is_some (found.first_of o (if t then Some v else None)) ≡ (is_some o || t)
 some_first None v true = refl
 some_first None v false = refl
 some_first (Some a) v t = refl
@@ -36,11 +38,8 @@ or_none false = refl
 
 -- ---- parameters by name
 
-abbrev pub seen : Option (Bor Parameter) → Option syntax.Parameter
-seen o = option_map (λ p. shapes.parameter p.now) o
-
 seen_first : (o : Option (Bor Parameter)) (p : Bor Parameter) (t : Bool) (others : Option syntax.Parameter)
-    → first_of (seen (first_of o (if t then Some p else None))) others ≡ first_of (seen o) (if t then Some (shapes.parameter p.now) else others)
+    → first_of (seen (found.first_of o (if t then Some p else None))) others ≡ first_of (seen o) (if t then Some (shapes.parameter p.now) else others)
 seen_first None p true others = refl
 seen_first None p false others = refl
 seen_first (Some a) p t others = refl

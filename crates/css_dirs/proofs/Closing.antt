@@ -1,7 +1,7 @@
 -- The search comes to what is reached.
-use Rattle.std.proofs.Common.{◌≡◌, ◌≢◌, ℕ, zero, suc, ◌+◌, ◌<◌, ◌≤◌, ◌⊎◌, inl, inr, ◌↔◌, Bool, true, false, ◌||◌, List, [], ◌∷◌, ◌++◌, length, map, Vec, Global, vec_len, get_or, set, nat_eq, if◌then◌else◌, refl, sym, ap, ◌∙◌, subst, arith, length-append, length-set}
+use Rattle.std.proofs.Common.{◌≡◌, ◌≢◌, ℕ, zero, suc, ◌+◌, ◌<◌, ◌≤◌, ◌⊎◌, inl, inr, ◌↔◌, Bool, true, false, ◌||◌, List, [], ◌∷◌, ◌++◌, length, map, drop, Vec, Global, vec_len, get_or, set, nat_eq, if◌then◌else◌, refl, sym, ap, ◌∙◌, subst, arith, length-append, length-set}
 use Rattle.std.specs.List.{list_any}
-use Rattle.std.proofs.lemmas.List.{get_or-map, get_or-set_same, get_or-set_other}
+use Rattle.std.proofs.lemmas.List.{append-nil, at_drop_all, get_or-map, get_or-set_same, get_or-set_other}
 use Rattle.std.proofs.lemmas.Bool.Decides.{nat_tests}
 use Rattle.css_dirs.specs.Closure.{is_marked, is_in, steps_to, Reached, Itself, Further, Search, marked, all_marked, unmarked, left, IsSearch}
 
@@ -307,8 +307,14 @@ none_left v none = by_items v.items none where
   by_items [] e = refl
   by_items (x ∷ xs) e = omega (arith, e)
 
+none_at : (i : ℕ) → i < 0 → ⊥
+none_at i below = omega (arith, below)
+
 -- what stands at a place is in the list
 pub at_in : (xs : List ℕ) (i : ℕ) → i < length xs → is_in (get_or xs i 0) xs ≡ true
-at_in [] i below = omega (arith, below)
+at_in [] i below = absurd (none_at i below)
 at_in (x ∷ xs) zero below = let same : nat_eq x x ≡ true = grind (arith, nat_tests) in or_left (nat_eq x x) (is_in x xs) same
 at_in (x ∷ xs) (suc i) below = or_right (nat_eq (get_or xs i 0) x) (is_in (get_or xs i 0) xs) (at_in xs i (omega (arith, below)))
+
+pub marked_end : (todo : List ℕ) (n : ℕ) (marks : List Bool) → length marks ≤ n → todo ++ marked_from n (drop n marks) ≡ marked_from 0 marks → todo ≡ marked_from 0 marks
+marked_end todo n marks past is = sym (append-nil todo) ∙ ap (λ l. todo ++ l) (sym (at_drop_all (marked_from n) marks n past)) ∙ is

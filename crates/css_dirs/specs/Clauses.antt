@@ -80,6 +80,9 @@ abbrev pub stands : List (List ℕ) → Option (List ℕ) → Bool
 stands names None = false
 stands names (Some name) = is_among names name
 
+abbrev pub is_lacking : List (List ℕ) → Parameter → Bool
+is_lacking names p = is_pointer p && not (stands names p.name)
+
 abbrev pub is_input : Direction → Bool
 is_input In = true
 is_input Out = false
@@ -106,7 +109,7 @@ names_unfit direction (Some p) = is_unfit direction p
 module _ (ps : List Parameter) where
   -- a pointer parameter stands in no clause
   abbrev pub lacks_direction : List Named → Bool
-  lacks_direction all = list_any (λ p. is_pointer p && not (stands (names_of all) p.name)) ps
+  lacks_direction all = list_any (is_lacking (names_of all)) ps
 
   -- a dimension uses a name that isn't an integer parameter's, unary `*` or `&`, or `[]`
   abbrev mutual

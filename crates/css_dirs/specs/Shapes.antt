@@ -12,7 +12,7 @@ act_by code.Calls line name = spec.Calls line name
 act_by code.Directs line name = spec.Directs line
 
 abbrev pub act : Act → spec.Act
-act a = act_by a.does a.line a.name.now
+act a = act_by a.does a.line.now a.name.now
 
 abbrev pub acts_of : List Act → List spec.Act
 acts_of acts = map act acts

@@ -19,7 +19,7 @@ pub(crate) enum Does {
 #[derive(Drop)]
 pub(crate) struct Act<'t> {
     pub does: Does,
-    pub line: Line,
+    pub line: &'t Line,
     pub name: &'t [u8],
 }
 
@@ -27,10 +27,10 @@ pub(crate) struct Act<'t> {
 pub(crate) fn add<'t>(
     acts: &mut Vec<Act<'t>>,
     does: Does,
-    line: Line,
+    line: &'t Line,
     name: &'t [u8],
 ) -> Result<(), NoMemory>
-    ensures { OnOk result (acts_of acts.new.items ≡ acts_of acts.old.items ++ act_by does line name.now ∷ []) }
+    ensures { OnOk result (acts_of acts.new.items ≡ acts_of acts.old.items ++ act_by does line.now name.now ∷ []) }
 {
     let next = Act { does, line, name };
     acts.push(next)?;

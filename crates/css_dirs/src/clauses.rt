@@ -3,7 +3,7 @@ ghost use Rattle.std.specs.Prelude.{◌≡◌, ℕ, List, ◌++◌, ◌∷◌, [
 ghost use Rattle.std.specs.List.{list_any};
 ghost use Rattle.css_tree.specs.Shapes as shapes;
 ghost use Rattle.css_dirs.specs.Breaches.{first_of, in_first};
-ghost use Rattle.css_dirs.specs.Clauses.{argument_name, sizes_of, named, named_in, names_of, stands, lacks_direction, is_input, names_unfit, is_bad, has_bad, is_foreign};
+ghost use Rattle.css_dirs.specs.Clauses.{argument_name, sizes_of, named, named_in, names_of, stands, is_lacking, lacks_direction, is_input, names_unfit, is_bad, has_bad, is_foreign};
 ghost use Rattle.css_dirs.specs.Listed.{named_of};
 ghost use Rattle.css_dirs.specs.Tables.{HasNames, AreByName};
 
@@ -130,11 +130,18 @@ fn lacks_direction(
 {
     let table = names_of(alloc, all)?;
     for parameter in parameters {
-        if is_pointer(parameter) && !stands(&table, &parameter.name) {
+        if is_lacking(&table, parameter) {
             return Ok(true);
         }
     }
     Ok(false)
+}
+
+/// Whether a parameter is a pointer whose name isn't one of these.
+fn is_lacking(table: &Firsts<'_, ()>, parameter: &Parameter) -> bool
+    ensures { (names : List (List ℕ)) → HasNames table.now names → result ≡ is_lacking names (shapes.parameter parameter.now) }
+{
+    is_pointer(parameter) && !stands(table, &parameter.name)
 }
 
 /// Whether a parameter's name is one of these.

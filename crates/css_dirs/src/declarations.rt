@@ -15,11 +15,11 @@ use css_tree::{Declarator, ForStart, Initialiser, Parameter};
 #[cycle(initialisers)]
 fn initialiser<'t>(
     locals: &Scope<'t, ()>,
-    line: Line,
+    line: &'t Line,
     tree: &'t Initialiser,
     acts: &mut Vec<Act<'t>>,
 ) -> Result<(), NoMemory>
-    ensures { OnOk result (acts_of acts.new.items ≡ acts_of acts.old.items ++ in_initialiser (names locals.now) line (shapes.initialiser tree.now)) }
+    ensures { OnOk result (acts_of acts.new.items ≡ acts_of acts.old.items ++ in_initialiser (names locals.now) line.now (shapes.initialiser tree.now)) }
 {
     match tree {
         Initialiser::Value(value) => expression(locals, line, value, acts),
@@ -32,11 +32,11 @@ fn initialiser<'t>(
 #[cycle(initialisers)]
 fn parts<'t>(
     locals: &Scope<'t, ()>,
-    line: Line,
+    line: &'t Line,
     initialisers: &'t [Initialiser],
     acts: &mut Vec<Act<'t>>,
 ) -> Result<(), NoMemory>
-    ensures { OnOk result (acts_of acts.new.items ≡ acts_of acts.old.items ++ in_parts (names locals.now) line (shapes.listed_parts initialisers.now)) }
+    ensures { OnOk result (acts_of acts.new.items ≡ acts_of acts.old.items ++ in_parts (names locals.now) line.now (shapes.listed_parts initialisers.now)) }
 {
     for part in initialisers {
         initialiser(locals, line, part, acts)?;
@@ -47,11 +47,11 @@ fn parts<'t>(
 /// Puts the acts of an initialiser that may be left out behind others.
 fn initial<'t>(
     locals: &Scope<'t, ()>,
-    line: Line,
+    line: &'t Line,
     value: &'t Option<Initialiser>,
     acts: &mut Vec<Act<'t>>,
 ) -> Result<(), NoMemory>
-    ensures { OnOk result (acts_of acts.new.items ≡ acts_of acts.old.items ++ in_initial (names locals.now) line (option_map shapes.initialiser value.now)) }
+    ensures { OnOk result (acts_of acts.new.items ≡ acts_of acts.old.items ++ in_initial (names locals.now) line.now (option_map shapes.initialiser value.now)) }
 {
     match value {
         Some(tree) => initialiser(locals, line, tree, acts),
@@ -71,11 +71,11 @@ fn declare<'t>(locals: &mut Scope<'t, ()>, name: &'t [u8]) -> Result<(), NoMemor
 #[tactic(auto, using(crate::proofs::Joins::both))]
 fn declarator<'t>(
     locals: &mut Scope<'t, ()>,
-    line: Line,
+    line: &'t Line,
     tree: &'t Declarator,
     acts: &mut Vec<Act<'t>>,
 ) -> Result<(), NoMemory>
-    ensures acts { OnOk result (acts_of acts.new.items ≡ acts_of acts.old.items ++ in_declarator (names locals.old) line (shapes.declarator tree.now)) }
+    ensures acts { OnOk result (acts_of acts.new.items ≡ acts_of acts.old.items ++ in_declarator (names locals.old) line.now (shapes.declarator tree.now)) }
     ensures names { OnOk result (names locals.new ≡ tree.now.name ∷ names locals.old) }
     ensures over { OnOk result (IsOver locals.old locals.new) }
 {
@@ -87,11 +87,11 @@ fn declarator<'t>(
 /// Declares names, and puts the acts of their declarators behind others.
 pub(crate) fn declarators<'t>(
     locals: &mut Scope<'t, ()>,
-    line: Line,
+    line: &'t Line,
     all: &'t [Declarator],
     acts: &mut Vec<Act<'t>>,
 ) -> Result<(), NoMemory>
-    ensures acts { OnOk result (acts_of acts.new.items ≡ acts_of acts.old.items ++ in_declarators (names locals.old) line (map shapes.declarator all.now)) }
+    ensures acts { OnOk result (acts_of acts.new.items ≡ acts_of acts.old.items ++ in_declarators (names locals.old) line.now (map shapes.declarator all.now)) }
     ensures names { OnOk result (names locals.new ≡ with_declarators (names locals.old) (map shapes.declarator all.now)) }
     ensures over { OnOk result (IsOver locals.old locals.new) }
 {
@@ -104,11 +104,11 @@ pub(crate) fn declarators<'t>(
 /// Puts the acts of the start of a `for` with this line behind others, and declares what is declared there.
 pub(crate) fn started<'t>(
     locals: &mut Scope<'t, ()>,
-    line: Line,
+    line: &'t Line,
     start: &'t ForStart,
     acts: &mut Vec<Act<'t>>,
 ) -> Result<(), NoMemory>
-    ensures acts { OnOk result (acts_of acts.new.items ≡ acts_of acts.old.items ++ in_start (names locals.old) line (shapes.for_start start.now)) }
+    ensures acts { OnOk result (acts_of acts.new.items ≡ acts_of acts.old.items ++ in_start (names locals.old) line.now (shapes.for_start start.now)) }
     ensures names { OnOk result (names locals.new ≡ with_start (names locals.old) (shapes.for_start start.now)) }
     ensures over { OnOk result (IsOver locals.old locals.new) }
 {
@@ -133,11 +133,11 @@ fn named<'t>(locals: &mut Scope<'t, ()>, name: &'t Option<Bytes>) -> Result<(), 
 /// Declares a parameter, and puts the acts of its dimensions behind others.
 fn parameter<'t>(
     locals: &mut Scope<'t, ()>,
-    line: Line,
+    line: &'t Line,
     tree: &'t Parameter,
     acts: &mut Vec<Act<'t>>,
 ) -> Result<(), NoMemory>
-    ensures acts { OnOk result (acts_of acts.new.items ≡ acts_of acts.old.items ++ in_sizes (names locals.old) line (shapes.dimensions tree.now.dimensions.items)) }
+    ensures acts { OnOk result (acts_of acts.new.items ≡ acts_of acts.old.items ++ in_sizes (names locals.old) line.now (shapes.dimensions tree.now.dimensions.items)) }
     ensures names { OnOk result (names locals.new ≡ with_name (names locals.old) tree.now.name) }
 {
     sizes(locals, line, tree.dimensions.as_slice(), acts)?;
@@ -147,11 +147,11 @@ fn parameter<'t>(
 /// Declares the parameters of a function with this line, and puts the acts of their dimensions behind others.
 pub(crate) fn parameters<'t>(
     locals: &mut Scope<'t, ()>,
-    line: Line,
+    line: &'t Line,
     all: &'t [Parameter],
     acts: &mut Vec<Act<'t>>,
 ) -> Result<(), NoMemory>
-    ensures acts { OnOk result (acts_of acts.new.items ≡ acts_of acts.old.items ++ in_parameters (names locals.old) line (map shapes.parameter all.now)) }
+    ensures acts { OnOk result (acts_of acts.new.items ≡ acts_of acts.old.items ++ in_parameters (names locals.old) line.now (map shapes.parameter all.now)) }
     ensures names { OnOk result (names locals.new ≡ with_parameters (names locals.old) (map shapes.parameter all.now)) }
 {
     for each in all {

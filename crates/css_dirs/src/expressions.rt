@@ -14,11 +14,11 @@ use css_tree::Expression;
 #[tactic(auto, using(crate::proofs::Joins::both))]
 pub(crate) fn expression<'t>(
     locals: &Scope<'t, ()>,
-    line: Line,
+    line: &'t Line,
     tree: &'t Expression,
     acts: &mut Vec<Act<'t>>,
 ) -> Result<(), NoMemory>
-    ensures { OnOk result (acts_of acts.new.items ≡ acts_of acts.old.items ++ in_expression (names locals.now) line (shapes.expression tree.now)) }
+    ensures { OnOk result (acts_of acts.new.items ≡ acts_of acts.old.items ++ in_expression (names locals.now) line.now (shapes.expression tree.now)) }
 {
     match tree {
         Expression::Comma { left, right, .. } | Expression::Binary { left, right, .. } => {
@@ -69,11 +69,11 @@ pub(crate) fn expression<'t>(
 #[cycle(expressions)]
 pub(crate) fn all<'t>(
     locals: &Scope<'t, ()>,
-    line: Line,
+    line: &'t Line,
     expressions: &'t [Expression],
     acts: &mut Vec<Act<'t>>,
 ) -> Result<(), NoMemory>
-    ensures { OnOk result (acts_of acts.new.items ≡ acts_of acts.old.items ++ in_all (names locals.now) line (map shapes.expression expressions.now)) }
+    ensures { OnOk result (acts_of acts.new.items ≡ acts_of acts.old.items ++ in_all (names locals.now) line.now (map shapes.expression expressions.now)) }
 {
     for each in expressions {
         expression(locals, line, each, acts)?;
@@ -82,8 +82,8 @@ pub(crate) fn all<'t>(
 }
 
 /// Puts a call behind others.
-fn call<'t>(line: Line, name: &'t [u8], acts: &mut Vec<Act<'t>>) -> Result<(), NoMemory>
-    ensures { OnOk result (acts_of acts.new.items ≡ acts_of acts.old.items ++ Calls line name.now ∷ []) }
+fn call<'t>(line: &'t Line, name: &'t [u8], acts: &mut Vec<Act<'t>>) -> Result<(), NoMemory>
+    ensures { OnOk result (acts_of acts.new.items ≡ acts_of acts.old.items ++ Calls line.now name.now ∷ []) }
 {
     add(acts, Does::Calls, line, name)
 }
@@ -91,11 +91,11 @@ fn call<'t>(line: Line, name: &'t [u8], acts: &mut Vec<Act<'t>>) -> Result<(), N
 /// Puts the act of a name behind others, where it isn't one of the function's own objects.
 fn named<'t>(
     locals: &Scope<'t, ()>,
-    line: Line,
+    line: &'t Line,
     name: &'t [u8],
     acts: &mut Vec<Act<'t>>,
 ) -> Result<(), NoMemory>
-    ensures { OnOk result (acts_of acts.new.items ≡ acts_of acts.old.items ++ by_name (is_local (names locals.now) name.now) line) }
+    ensures { OnOk result (acts_of acts.new.items ≡ acts_of acts.old.items ++ by_name (is_local (names locals.now) name.now) line.now) }
 {
     if locals.is_seen(name) {
         return Ok(());
@@ -106,11 +106,11 @@ fn named<'t>(
 /// Puts the acts of an expression that may be left out behind others.
 pub(crate) fn optional<'t>(
     locals: &Scope<'t, ()>,
-    line: Line,
+    line: &'t Line,
     value: &'t Option<Expression>,
     acts: &mut Vec<Act<'t>>,
 ) -> Result<(), NoMemory>
-    ensures { OnOk result (acts_of acts.new.items ≡ acts_of acts.old.items ++ in_optional (names locals.now) line (option_map shapes.expression value.now)) }
+    ensures { OnOk result (acts_of acts.new.items ≡ acts_of acts.old.items ++ in_optional (names locals.now) line.now (option_map shapes.expression value.now)) }
 {
     match value {
         Some(tree) => expression(locals, line, tree, acts),
@@ -121,11 +121,11 @@ pub(crate) fn optional<'t>(
 /// Puts the acts of dimensions behind others.
 pub(crate) fn sizes<'t>(
     locals: &Scope<'t, ()>,
-    line: Line,
+    line: &'t Line,
     dimensions: &'t [Option<Expression>],
     acts: &mut Vec<Act<'t>>,
 ) -> Result<(), NoMemory>
-    ensures { OnOk result (acts_of acts.new.items ≡ acts_of acts.old.items ++ in_sizes (names locals.now) line (shapes.dimensions dimensions.now)) }
+    ensures { OnOk result (acts_of acts.new.items ≡ acts_of acts.old.items ++ in_sizes (names locals.now) line.now (shapes.dimensions dimensions.now)) }
 {
     for size in dimensions {
         optional(locals, line, size, acts)?;

@@ -131,7 +131,7 @@ fn item_acts<'t, R: Reads>(
             parameters,
             body,
             ..
-        } => text(alloc, reads, *line, listed(parameters), body),
+        } => text(alloc, reads, line, listed(parameters), body),
         Item::Declaration(_) => Ok(Vec::new(alloc)),
     }
 }
@@ -185,13 +185,13 @@ fn act_fault(done: &Act<'_>, tasks: &Firsts<'_, &Mark>) -> Option<StaticFault>
     ensures { result ≡ first_of (by_act (λ name. is_some (value_of tasks.now name)) (act done.now)) }
 {
     match done.does {
-        Does::NamesGlobal => Some(fault(StaticName::TaskGlobal, done.line)),
-        Does::Directs => Some(fault(StaticName::NestedTask, done.line)),
+        Does::NamesGlobal => Some(fault(StaticName::TaskGlobal, *done.line)),
+        Does::Directs => Some(fault(StaticName::NestedTask, *done.line)),
         Does::Calls => {
             if library_of(done.name).is_some() {
-                Some(fault(StaticName::TaskOutside, done.line))
+                Some(fault(StaticName::TaskOutside, *done.line))
             } else if tasks.find(done.name).is_some() {
-                Some(fault(StaticName::NestedTask, done.line))
+                Some(fault(StaticName::NestedTask, *done.line))
             } else {
                 None
             }

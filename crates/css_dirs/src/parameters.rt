@@ -1,8 +1,11 @@
 //! The parameters of a task.
-ghost use Rattle.std.specs.Prelude.{◌≡◌, IfOk, map, option_map};
+ghost use Rattle.std.specs.Prelude.{◌≡◌, ℕ, List, Option, Some, IfOk, OnOk, map, option_map, if◌then◌else◌};
+ghost use Rattle.css_tree.specs.Syntax as syntax;
+ghost use Rattle.css_scopes.specs.Firsts.{value_of};
+ghost use Rattle.css_dirs.specs.Tables.{first_of, seen};
 ghost use Rattle.css_tree.specs.Shapes as shapes;
 ghost use Rattle.css_dirs.specs.Tables.{AreByName};
-ghost use Rattle.css_dirs.specs.Clauses.{parameter_named, is_pointer, points_to_void, says_void};
+ghost use Rattle.css_dirs.specs.Clauses.{is_named, parameter_named, is_pointer, points_to_void, says_void};
 
 use css_base::NoMemory;
 use css_scopes::Firsts;
@@ -42,11 +45,23 @@ fn by_name<'t>(alloc: Global, all: &'t [Parameter]) -> Result<Firsts<'t, &'t Par
 {
     let mut table = Firsts::new(alloc);
     for each in all {
-        if let Some(name) = &each.name {
-            table.add(name.as_slice(), each)?;
-        }
+        add_named(&mut table, each)?;
     }
     Ok(table)
+}
+
+/// Puts a parameter under its name, if it has one and no earlier one has it.
+fn add_named<'t>(
+    table: &mut Firsts<'t, &'t Parameter>,
+    parameter: &'t Parameter,
+) -> Result<(), NoMemory>
+    ensures { OnOk result ((q : List ℕ) (others : Option syntax.Parameter) → first_of (seen (value_of table.new q)) others
+        ≡ first_of (seen (value_of table.old q)) (if is_named q (shapes.parameter parameter.now).name then Some (shapes.parameter parameter.now) else others)) }
+{
+    match &parameter.name {
+        Some(name) => table.add(name.as_slice(), parameter),
+        None => Ok(()),
+    }
 }
 
 /// Whether words say `void`.

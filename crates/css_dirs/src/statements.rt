@@ -28,7 +28,7 @@ fn statement<'t, R: Reads>(
     match tree {
         Statement::Block(block) => within(reads, locals, block.entries.as_slice(), acts),
         Statement::Expression { line, value } | Statement::Return { line, value } => {
-            optional(locals, *line, value, acts)
+            optional(locals, line, value, acts)
         }
         Statement::If {
             line,
@@ -36,7 +36,7 @@ fn statement<'t, R: Reads>(
             first,
             second: None,
         } => {
-            expression(locals, *line, condition, acts)?;
+            expression(locals, line, condition, acts)?;
             statement(reads, locals, first, acts)
         }
         Statement::If {
@@ -45,7 +45,7 @@ fn statement<'t, R: Reads>(
             first,
             second: Some(second),
         } => {
-            expression(locals, *line, condition, acts)?;
+            expression(locals, line, condition, acts)?;
             statement(reads, locals, first, acts)?;
             statement(reads, locals, second, acts)
         }
@@ -54,7 +54,7 @@ fn statement<'t, R: Reads>(
             condition,
             body,
         } => {
-            expression(locals, *line, condition, acts)?;
+            expression(locals, line, condition, acts)?;
             statement(reads, locals, body, acts)
         }
         Statement::Do {
@@ -63,7 +63,7 @@ fn statement<'t, R: Reads>(
             condition,
         } => {
             statement(reads, locals, body, acts)?;
-            expression(locals, *line, condition, acts)
+            expression(locals, line, condition, acts)
         }
         Statement::For {
             line,
@@ -73,7 +73,7 @@ fn statement<'t, R: Reads>(
             body,
         } => {
             let count = locals.len();
-            headed(locals, *line, start, condition, step, acts)?;
+            headed(locals, line, start, condition, step, acts)?;
             statement(reads, locals, body, acts)?;
             locals.close_to(count);
             Ok(())
@@ -86,13 +86,13 @@ fn statement<'t, R: Reads>(
 #[tactic(auto, using(crate::proofs::Joins::both))]
 fn headed<'t>(
     locals: &mut Scope<'t, ()>,
-    line: Line,
+    line: &'t Line,
     start: &'t ForStart,
     condition: &'t Option<Expression>,
     step: &'t Option<Expression>,
     acts: &mut Vec<Act<'t>>,
 ) -> Result<(), NoMemory>
-    ensures acts { OnOk result (acts_of acts.new.items ≡ acts_of acts.old.items ++ in_head (names locals.old) line (shapes.for_start start.now) (option_map shapes.expression condition.now) (option_map shapes.expression step.now)) }
+    ensures acts { OnOk result (acts_of acts.new.items ≡ acts_of acts.old.items ++ in_head (names locals.old) line.now (shapes.for_start start.now) (option_map shapes.expression condition.now) (option_map shapes.expression step.now)) }
     ensures names { OnOk result (names locals.new ≡ with_start (names locals.old) (shapes.for_start start.now)) }
     ensures over { OnOk result (IsOver locals.old locals.new) }
 {
@@ -150,9 +150,9 @@ fn entry<'t, R: Reads>(
     match tree {
         Entry::Declaration(declaration) => {
             let all = declaration.declarators.as_slice();
-            declarators(locals, declaration.line, all, acts)
+            declarators(locals, &declaration.line, all, acts)
         }
-        Entry::Directive(mark) => directive(locals, mark.line, reads.directive(mark), acts),
+        Entry::Directive(mark) => directive(locals, &mark.line, reads.directive(mark), acts),
         Entry::Statement(inner) => statement(reads, locals, inner, acts),
     }
 }
@@ -161,11 +161,11 @@ fn entry<'t, R: Reads>(
 #[tactic(auto, using(crate::proofs::Joins::both))]
 fn directive<'t>(
     locals: &Scope<'t, ()>,
-    line: Line,
+    line: &'t Line,
     read: &'t Directive,
     acts: &mut Vec<Act<'t>>,
 ) -> Result<(), NoMemory>
-    ensures { OnOk result (acts_of acts.new.items ≡ acts_of acts.old.items ++ in_directive (names locals.now) line (shapes.directive read.now)) }
+    ensures { OnOk result (acts_of acts.new.items ≡ acts_of acts.old.items ++ in_directive (names locals.now) line.now (shapes.directive read.now)) }
 {
     if let Directive::Wait { addresses, .. } = read {
         all(locals, line, addresses.as_slice(), acts)?;

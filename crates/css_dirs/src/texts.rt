@@ -17,11 +17,11 @@ use std::alloc::Global;
 pub(crate) fn text<'t, R: Reads>(
     alloc: Global,
     reads: &'t R,
-    line: Line,
+    line: &'t Line,
     all: &'t [Parameter],
     body: &'t Option<Block>,
 ) -> Result<Vec<Act<'t>>, NoMemory>
-    ensures { IfOk result (λ acts. acts_of acts.items ≡ in_body (R.read reads.now) line (map shapes.parameter all.now) (option_map shapes.body body.now)) }
+    ensures { IfOk result (λ acts. acts_of acts.items ≡ in_body (R.read reads.now) line.now (map shapes.parameter all.now) (option_map shapes.body body.now)) }
 {
     let mut acts = Vec::new(alloc);
     if let Some(block) = body {

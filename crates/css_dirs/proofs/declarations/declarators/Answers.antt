@@ -7,7 +7,7 @@ use Rattle.css_dirs.proofs.declarations.declarators.Goals as goal
 
 pub loop-each-preserved : goal.loop-each-preserved
 loop-each-preserved c = record {
-  acts = next_in (λ ls d. in_declarator ls c.args.line (shapes.declarator d)) (λ ls d. d.name ∷ ls) (λ ls ds. in_declarators ls c.args.line (map shapes.declarator ds)) (λ ls x xs. refl) (λ ls. refl)
+  acts = next_in (λ ls d. in_declarator ls c.args.line.now (shapes.declarator d)) (λ ls d. d.name ∷ ls) (λ ls ds. in_declarators ls c.args.line.now (map shapes.declarator ds)) (λ ls x xs. refl) (λ ls. refl)
       (names c.loop-each.locals) (names c.declarator.new.locals) (acts_of c.declarator.new.acts.items) (acts_of c.loop-each.acts.items) c.args.all.now c.loop-each.each-index c.each-item.result c.loop-each-test.true c.each-item.is c.in_ok-declarator.ensures.acts c.in_ok-declarator.ensures.names
       ∙ c.loop-each.invariant.acts;
   names = next_names (λ ls d. d.name ∷ ls) (λ ls ds. with_declarators ls (map shapes.declarator ds)) (λ ls x xs. refl) (λ ls. refl)
@@ -18,7 +18,7 @@ loop-each-preserved c = record {
 
 pub returns-clause-acts : goal.returns-clause-acts
 returns-clause-acts c =
-    ends_in (λ ls d. in_declarator ls c.args.line (shapes.declarator d)) (λ ls d. d.name ∷ ls) (λ ls ds. in_declarators ls c.args.line (map shapes.declarator ds)) (λ ls x xs. refl) (λ ls. refl)
+    ends_in (λ ls d. in_declarator ls c.args.line.now (shapes.declarator d)) (λ ls d. d.name ∷ ls) (λ ls ds. in_declarators ls c.args.line.now (map shapes.declarator ds)) (λ ls x xs. refl) (λ ls. refl)
     (names c.args.locals.now) (names c.loop-each.locals) (acts_of c.loop-each.acts.items) (acts_of c.args.acts.now.items) c.args.all.now c.loop-each.each-index c.loop-each-test.false c.loop-each.invariant.acts
 
 pub returns-clause-names : goal.returns-clause-names

@@ -7,7 +7,7 @@ use Rattle.css_dirs.proofs.declarations.parameters.Goals as goal
 
 pub loop-each-preserved : goal.loop-each-preserved
 loop-each-preserved c = record {
-  acts = next_in (λ ls p. in_sizes ls c.args.line (shapes.parameter p).dimensions) (λ ls p. with_name ls (shapes.parameter p).name) (λ ls ps. in_parameters ls c.args.line (map shapes.parameter ps)) (λ ls x xs. refl) (λ ls. refl)
+  acts = next_in (λ ls p. in_sizes ls c.args.line.now (shapes.parameter p).dimensions) (λ ls p. with_name ls (shapes.parameter p).name) (λ ls ps. in_parameters ls c.args.line.now (map shapes.parameter ps)) (λ ls x xs. refl) (λ ls. refl)
       (names c.loop-each.locals) (names c.parameter.new.locals) (acts_of c.parameter.new.acts.items) (acts_of c.loop-each.acts.items) c.args.all.now c.loop-each.each-index c.each-item.result c.loop-each-test.true c.each-item.is c.in_ok-parameter.ensures.acts c.in_ok-parameter.ensures.names
       ∙ c.loop-each.invariant.acts;
   names = next_names (λ ls p. with_name ls (shapes.parameter p).name) (λ ls ps. with_parameters ls (map shapes.parameter ps)) (λ ls x xs. refl) (λ ls. refl)
@@ -17,7 +17,7 @@ loop-each-preserved c = record {
 
 pub returns-clause-acts : goal.returns-clause-acts
 returns-clause-acts c =
-    ends_in (λ ls p. in_sizes ls c.args.line (shapes.parameter p).dimensions) (λ ls p. with_name ls (shapes.parameter p).name) (λ ls ps. in_parameters ls c.args.line (map shapes.parameter ps)) (λ ls x xs. refl) (λ ls. refl)
+    ends_in (λ ls p. in_sizes ls c.args.line.now (shapes.parameter p).dimensions) (λ ls p. with_name ls (shapes.parameter p).name) (λ ls ps. in_parameters ls c.args.line.now (map shapes.parameter ps)) (λ ls x xs. refl) (λ ls. refl)
     (names c.args.locals.now) (names c.loop-each.locals) (acts_of c.loop-each.acts.items) (acts_of c.args.acts.now.items) c.args.all.now c.loop-each.each-index c.loop-each-test.false c.loop-each.invariant.acts
 
 pub returns-clause-names : goal.returns-clause-names
@@ -29,5 +29,4 @@ pub loop-each-init : goal.loop-each-init
 loop-each-init c = record {
   acts = refl;
   names = refl;
-
 }

@@ -1,9 +1,8 @@
 use Rattle.std.proofs.Common.{◌≡◌, ℕ, List, drop, map}
 use Rattle.css_tree.specs.Shapes as shapes
 use Rattle.css_scopes.specs.Firsts.{value_of}
-use Rattle.css_scopes.proofs.Found.{first_of}
 use Rattle.css_dirs.specs.Clauses.{parameter_named}
-use Rattle.css_dirs.proofs.ClauseRows.{seen}
+use Rattle.css_dirs.specs.Tables.{first_of, seen}
 use Rattle.css_dirs.proofs.parameters.by_name.Given as goal
 
 abbrev pub invariant-loop-each : goal.invariant-loop-each

@@ -24,6 +24,5 @@ entries-returns-clause-over g t c = c.loop-each.invariant.over
 pub entries-loop-each-init : goal.entries-loop-each-init
 entries-loop-each-init g t c = record {
   acts = refl;
-
   over = over_none c.args.locals.now;
 }
