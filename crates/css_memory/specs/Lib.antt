@@ -1,0 +1,5 @@
+pub mod Main
+pub mod Starts
+pub mod Layouts
+pub mod Kept
+pub mod Pages

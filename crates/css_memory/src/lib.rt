@@ -1,0 +1,9 @@
+//! Main's memory: globals, heap and stack, and the pages on which objects are pending.
+#![tactic(auto)]
+
+mod main_memory;
+mod overlay;
+mod pages;
+mod start;
+
+

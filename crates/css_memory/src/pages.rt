@@ -1,0 +1,1 @@
+//! Which pages have bytes of pending objects.
