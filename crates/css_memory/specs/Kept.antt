@@ -1,5 +1,5 @@
 -- A memory as the code keeps it: the bytes from the first global up to the heap's top, and those of the stack.
-use Rattle.std.specs.Prelude.{◌≡◌, ◌≤◌, ◌<◌, ◌^◌, ℕ, ◌+◌, ◌-◌, List, length, take, drop, Bool, ◌&&◌, nat_lt}
+use Rattle.std.specs.Prelude.{◌≡◌, ◌≤◌, ◌<◌, ◌^◌, ℕ, ◌+◌, ◌-◌, ◌*◌, List, length, take, drop, Bool, ◌&&◌, nat_lt}
 use Rattle.css_semantics.specs.declared.TheConstants.{STACK_LIMIT}
 use Rattle.css_semantics.specs.Memory.{Memory, first_global, rounded_up}
 
@@ -13,8 +13,8 @@ pub record Parts : Type 0 where
   pub origin : ℕ
   pub start : ℕ
 
-abbrev pub heap_top_of : Parts → ℕ
-heap_top_of p = first_global + length p.low
+abbrev pub top_of : Parts → ℕ
+top_of p = first_global + length p.low
 
 abbrev pub place_of : Parts → ℕ
 place_of p = p.origin + p.start
@@ -34,16 +34,18 @@ kept p calls most = record {
 }
 
 -- The heap begins behind the globals. Below the memory's end there is room for an erased program's stack above the heap's top, and the
--- high bytes are no more than that.
-pub record AreParts (p : Parts) : Type 0 where
+-- high bytes are no more than that. There is room for the low ones up to the heap's end, and there are so many pages.
+pub record IsKept (p : Parts) (capacity pages : ℕ) : Type 0 where
   pub globals : first_global ≤ p.globals_end
   pub heap_start : p.heap_start ≡ rounded_up 16 p.globals_end
-  pub heap : p.heap_start ≤ heap_top_of p
-  pub room : heap_top_of p + STACK_LIMIT ≤ end_of p
+  pub heap : p.heap_start ≤ top_of p
+  pub room : top_of p + STACK_LIMIT ≤ end_of p
   pub limit : length p.high ≤ STACK_LIMIT
   pub start : p.start ≤ length p.high
   pub end : end_of p < 2 ^ 32
+  pub capacity : end_of p ≤ first_global + STACK_LIMIT + capacity
+  pub pages : end_of p ≤ 4096 * pages
 
--- some bytes meet a gap, from one address up to another
+-- bytes up to an address meet a gap, from one address up to another
 abbrev pub meets_gap : (first end from to : ℕ) → Bool
 meets_gap first end from to = nat_lt first end && (nat_lt from end && nat_lt first to)
