@@ -1,7 +1,7 @@
 pub mod Overlays
 pub mod Ranges
 pub mod Places
-pub mod Reads
-pub mod Writes
+pub mod ReadBytes
+pub mod StoredBytes
 pub mod Counts
 pub mod Marks

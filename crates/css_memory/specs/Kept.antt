@@ -35,7 +35,7 @@ kept p calls most = record {
 
 -- The heap begins behind the globals. Below the memory's end there is room for an erased program's stack above the heap's top, and the
 -- high bytes are no more than that. There is room for the low ones up to the heap's end, and there are so many pages.
-pub record IsKept (p : Parts) (capacity pages : ℕ) : Type 0 where
+pub record IsKept (p : Parts) (reserved count : ℕ) : Type 0 where
   pub globals : first_global ≤ p.globals_end
   pub heap_start : p.heap_start ≡ rounded_up 16 p.globals_end
   pub heap : p.heap_start ≤ top_of p
@@ -43,8 +43,8 @@ pub record IsKept (p : Parts) (capacity pages : ℕ) : Type 0 where
   pub limit : length p.high ≤ STACK_LIMIT
   pub start : p.start ≤ length p.high
   pub end : end_of p < 2 ^ 32
-  pub capacity : end_of p ≤ first_global + STACK_LIMIT + capacity
-  pub pages : end_of p ≤ 4096 * pages
+  pub capacity : end_of p ≤ first_global + STACK_LIMIT + reserved
+  pub pages : end_of p ≤ 4096 * count
 
 -- bytes up to an address meet a gap, from one address up to another
 abbrev pub meets_gap : (first end from to : ℕ) → Bool

@@ -1,5 +1,5 @@
 //! Which pages have bytes of marked windows.
-ghost use Rattle.std.specs.Prelude.{◌≡◌, ◌+◌, ◌*◌, ◌≤◌, ◌<◌, ◌++◌, ◌∷◌, [], ℕ, List, length, slice_index, IfOk};
+ghost use Rattle.std.specs.Prelude.{◌≡◌, ◌+◌, ◌*◌, ◌^◌, ◌≤◌, ◌<◌, ◌++◌, ◌∷◌, [], ℕ, List, length, slice_index, true, false, IfOk};
 ghost use Rattle.css_semantics.specs.Tasks as tasks;
 ghost use Rattle.css_record.specs.Windows.{window, IsWindow};
 ghost use Rattle.css_memory.specs.Pages.{touches, shared, bytes_on, RowsEnd, IsWithin, IsApart, AreMarked};
