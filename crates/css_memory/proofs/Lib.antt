@@ -3,5 +3,8 @@ pub mod Ranges
 pub mod Places
 pub mod ReadBytes
 pub mod StoredBytes
+pub mod StartBytes
+pub mod RowSteps
+pub mod Replies
 pub mod Counts
 pub mod Marks

@@ -10,11 +10,11 @@ use Rattle.css_memory.specs.Kept.{Parts, top_of, place_of, end_of, kept, IsKept}
 use Rattle.css_memory.proofs.Overlays.{take-overlaid, none_overlaid}
 use Rattle.css_memory.proofs.Places.{globals_below, top_below, stack_above, heap_start_is, place_is}
 
-abbrev memory : (globals heap stack : List ℕ) (end calls bytes most : ℕ) → Memory
+abbrev pub memory : (globals heap stack : List ℕ) (end calls bytes most : ℕ) → Memory
 memory globals heap stack end calls bytes most =
     record { globals = globals; heap = heap; stack = stack; end = end; calls = calls; limit = record { bytes = bytes; calls = most } }
 
-same_memory : (globals globals' heap heap' stack stack' : List ℕ) (end end' bytes bytes' calls most : ℕ)
+pub same_memory : (globals globals' heap heap' stack stack' : List ℕ) (end end' bytes bytes' calls most : ℕ)
     → globals ≡ globals' → heap ≡ heap' → stack ≡ stack' → end ≡ end' → bytes ≡ bytes' → memory globals heap stack end calls bytes most ≡ memory globals' heap' stack' end' calls bytes' most
 same_memory globals globals' heap heap' stack stack' end end' bytes bytes' calls most g h s e b =
     ap (λ x. memory x heap stack end calls bytes most) g

@@ -1,0 +1,10 @@
+use Rattle.css_memory.proofs.main_memory.MainMemorySpace.load.Goals as goal
+
+pub returns-then-is_inside-clause-says : goal.returns-then-is_inside-clause-says
+returns-then-is_inside-clause-says c = ?
+
+pub returns-then-is_inside-2-clause-says : goal.returns-then-is_inside-2-clause-says
+returns-then-is_inside-2-clause-says c = ?
+
+pub returns-then-is_inside-3-clause-says : goal.returns-then-is_inside-3-clause-says
+returns-then-is_inside-3-clause-says c = ?
