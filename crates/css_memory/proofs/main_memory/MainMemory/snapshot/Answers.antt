@@ -1,8 +1,8 @@
 use Rattle.std.proofs.Common.{◌≡◌, ◌+◌, ◌-◌, ◌*◌, ◌^◌, ◌++◌, ℕ, List, length, take, drop, ap, sym, subst, ◌∙◌, arith}
 use Rattle.std.specs.Vec.{with_items}
-use Rattle.std.proofs.lemmas.List.{with_items_is, length-take, length-drop, length-replicate}
+use Rattle.std.proofs.lemmas.List.{with_items_is, length-take, length-drop}
 use Rattle.std.proofs.lemmas.Slice.{take-put_mid}
-use borrow.Rule.Slice.PartMut.{put_mid}
+use borrow.Rule.Slice.PartMut.{put_mid, same_len_mid}
 use Rattle.css_semantics.specs.Memory.{is_live, is_live_byte, bytes_at}
 use Rattle.css_semantics.specs.Rules.{all_of_rows}
 use Rattle.css_semantics.specs.Verdict.{bytes_of_rows, bytes_of_window}
@@ -20,7 +20,7 @@ loop-row-init c =
     record {
       ends = subst (λ (n : ℕ). RowsEnd (2 ^ 33) n p.base p.width p.stride) (sym whole) (window_ends (window p) c.requires.is_window (omega arith));
       live = ap (λ n. all_of_rows (is_live_byte m) n p.base p.width p.stride) whole ∙ c.requires.live;
-      left = omega (arith, product, c.length.ensures, ap length c.in_ok-copied.ensures.items, length-replicate {A = ℕ});
+      left = omega (arith, product, c.length.ensures, c.in_ok-copied.ensures.len);
       rest = ap (λ n. bytes_of_rows m n p.base p.width p.stride) whole;
     }
 
@@ -58,11 +58,12 @@ loop-row-preserved c =
     let long : length (take count (drop l.done old)) ≡ p.width = omega (arith, length-take count (drop l.done old), length-drop l.done old, as_long, inside) in
     let same : length new ≡ p.width = omega (arith, c.read.auto.into, long) in
     let written = put_mid l.done count old new in
-    let kept : (with_items l.copied written).items ≡ written = with_items_is l.copied written ? in
+    let whole : length written ≡ length old = same_len_mid l.done count old new (same ∙ sym long) in
+    let kept : (with_items l.copied written).items ≡ written = with_items_is l.copied written (whole ∙ c.deref_mut.ensures.len) in
     record {
       ends = (ends_step (2 ^ 33) (p.rows - l.row) rest l.at p.width p.stride is l.invariant.ends).1;
       live = (live_step (is_live_byte m) (p.rows - l.row) rest l.at p.width p.stride is l.invariant.live).1;
-      left = left_step (p.rows - l.row) rest p.width l.done (length l.copied.items) is l.invariant.left ∙ ?;
+      left = left_step (p.rows - l.row) rest p.width l.done (length l.copied.items) is l.invariant.left ∙ sym (ap length kept ∙ whole ∙ as_long);
       rest = row_copied m l.copied.items (with_items l.copied written).items new (bytes_of_window m (window p)) (p.rows - l.row) rest l.at p.width p.stride l.done is
           (ap (take (l.done + p.width)) kept ∙ take-put_mid l.done count old new (l.done + p.width) (omega (arith, same)) (omega (arith, as_long, inside)) ∙ ap (λ xs. take l.done xs ++ new) c.deref_mut.ensures.value)
           (c.read.ensures ∙ ap (λ n. bytes_at m l.at n) long)
