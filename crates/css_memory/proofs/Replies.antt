@@ -108,5 +108,5 @@ pub as_judged : (plain : Bool) (bytes calls : ℕ) → plain ≡ false → bytes
 as_judged plain bytes calls is b c = rw (is, b, c) refl
 
 pub same_by : (a b : Bool) → (a ≡ true → b ≡ true) → (a ≡ false → b ≡ false) → a ≡ b
-same_by true b yes no = sym (yes refl)
-same_by false b yes no = sym (no refl)
+same_by true b on off = sym (on refl)
+same_by false b on off = sym (off refl)

@@ -1,11 +1,11 @@
 -- The globals' first bytes, and the memory in which a code starts.
-use Rattle.std.proofs.Common.{◌≡◌, ℕ, ◌+◌, ◌-◌, ◌*◌, ◌≤◌, ◌<◌, ◌^◌, List, [], ◌∷◌, length, take, drop, replicate, refl, ap, ◌∙◌, arith}
+use Rattle.std.proofs.Common.{◌≡◌, ℕ, ◌+◌, ◌-◌, ◌≤◌, List, [], ◌∷◌, length, take, drop, replicate, refl, ap, ◌∙◌, arith}
 use Rattle.std.proofs.lemmas.List.{take-replicate, length-replicate, drop_all}
-use Rattle.css_semantics.specs.Memory.{Memory, StackLimit, rounded_up, overlaid}
+use Rattle.css_semantics.specs.Memory.{rounded_up, overlaid}
 use Rattle.css_semantics.proofs.StackPlaces.{length-overlaid}
 use Rattle.css_isa.specs.Code.{Code, Datum}
 use Rattle.css_memory.specs.Starts.{first_bytes, start_of}
-use Rattle.css_memory.specs.Kept.{Parts, kept, IsKept}
+use Rattle.css_memory.specs.Kept.{Parts, kept}
 use Rattle.css_memory.proofs.Overlays.{take-overlaid}
 use Rattle.css_memory.proofs.StoredBytes.{same_memory}
 
@@ -20,33 +20,14 @@ take-first_bytes (d ∷ datums) k size within =
     take-overlaid k 4096 (first_bytes datums size) d.address d.bytes
     ∙ ap (λ bytes. overlaid 4096 bytes d.address d.bytes) (take-first_bytes datums k size within)
 
-module _ (code : Code) (heap_start size limit most : ℕ) (globals : 4096 ≤ code.globals_end) (is_start : heap_start ≡ rounded_up 16 code.globals_end)
-    (room : heap_start + 1064960 ≤ size) (within : limit ≤ 1064960) (small : size < 2 ^ 32) where
-  abbrev first : Parts
-  first = record {
-    low = first_bytes code.datums (heap_start - 4096);
-    globals_end = code.globals_end;
-    heap_start = heap_start;
-    high = replicate limit 0;
-    origin = size - limit;
-    start = limit;
-  }
+abbrev pub parts_at : (low : List ℕ) (globals_end heap_start : ℕ) (high : List ℕ) (origin start : ℕ) → Parts
+parts_at low globals_end heap_start high origin start =
+    record { low = low; globals_end = globals_end; heap_start = heap_start; high = high; origin = origin; start = start }
 
-  pub first_kept : (reserved count : ℕ) → size - 1064960 - 4096 ≤ reserved → size ≤ 4096 * count → IsKept first reserved count
-  first_kept reserved count roomy paged =
-      let low = length-first_bytes code.datums (heap_start - 4096) in
-      let high : length (replicate limit 0) ≡ limit = length-replicate {A = ℕ} limit 0 in
-      record {
-        globals = globals;
-        heap_start = is_start;
-        heap = omega (arith, low);
-        room = omega (arith, low, high);
-        limit = omega (arith, high);
-        start = omega (arith, high);
-        end = omega (arith, high);
-        capacity = omega (arith, high);
-        pages = omega (arith, high);
-      }
+module _ (code : Code) (heap_start size limit most : ℕ) (globals : 4096 ≤ code.globals_end) (is_start : heap_start ≡ rounded_up 16 code.globals_end)
+    (room : heap_start + 1064960 ≤ size) (within : limit ≤ 1064960) where
+  abbrev first : Parts
+  first = parts_at (first_bytes code.datums (heap_start - 4096)) code.globals_end heap_start (replicate limit 0) (size - limit) limit
 
   pub first_is : kept first 0 most ≡ start_of code size (record { bytes = limit; calls = most })
   first_is =

@@ -1,4 +1,4 @@
-use Rattle.std.proofs.Common.{◌≡◌, ◌+◌, ◌-◌, length, take, drop, vec_capacity, ap, ◌∙◌, arith}
+use Rattle.std.proofs.Common.{◌≡◌, ◌+◌, ◌-◌, length, take, drop, vec_capacity, refl, ap, ◌∙◌, arith}
 use Rattle.css_semantics.specs.Memory.{big_endian}
 use Rattle.css_isa.specs.Spaces.{bytes_of}
 use Rattle.css_memory.specs.Held.{parts}
@@ -12,7 +12,7 @@ returns-then-is_inside-clause-says c =
     let n = bytes_of c.args.width in
     let index = address - m.origin in
     let bytes = c.deref.result.now in
-    let inside = c.if-is_inside.ensures.0 tt in
+    let inside = c.if-is_inside.ensures.0 refl in
     let count = c.byte_count-count.ensures in
     let long : index + c.byte_count-count.result - index ≡ n = omega (arith, count) in
     let value = c.number_of.ensures
@@ -28,7 +28,7 @@ returns-then-is_inside-2-clause-says c =
     let n = bytes_of c.args.width in
     let index = address - 4096 in
     let bytes = c.deref-then-is_inside-2.result.now in
-    let inside = c.if-is_inside-2.ensures.0 tt in
+    let inside = c.if-is_inside-2.ensures.0 refl in
     let count = c.byte_count-count.ensures in
     let long : index + c.byte_count-count.result - index ≡ n = omega (arith, count) in
     let value = c.number_of-then-is_inside-2.ensures
@@ -44,7 +44,7 @@ returns-then-is_inside-3-clause-says c =
     let n = bytes_of c.args.width in
     let index = address - 4096 in
     let bytes = c.deref-then-is_inside-3.result.now in
-    let inside = c.if-is_inside-3.ensures.0 tt in
+    let inside = c.if-is_inside-3.ensures.0 refl in
     let count = c.byte_count-count.ensures in
     let long : index + c.byte_count-count.result - index ≡ n = omega (arith, count) in
     let value = c.number_of-then-is_inside-3.ensures

@@ -1,4 +1,4 @@
-use Rattle.std.proofs.Common.{◌≡◌, ◌+◌, ◌-◌, length, vec_capacity, ap, ◌∙◌, arith}
+use Rattle.std.proofs.Common.{◌≡◌, ◌+◌, ◌-◌, length, vec_capacity, refl, ap, ◌∙◌, arith}
 use Rattle.std.specs.Vec.{with_items}
 use Rattle.std.proofs.lemmas.List.{with_items_is}
 use Rattle.css_semantics.specs.Memory.{big_endian_bytes, overlaid}
@@ -13,7 +13,7 @@ returns-then-is_inside-clause-says c =
     let m = c.self.inside in
     let address = c.args.address in
     let bytes = big_endian_bytes (bytes_of c.args.width) c.args.value in
-    let inside = c.if-is_inside.ensures.0 tt in
+    let inside = c.if-is_inside.ensures.0 refl in
     let count = c.byte_count-count.ensures in
     let long : length bytes ≡ bytes_of c.args.width = length-big_endian_bytes (bytes_of c.args.width) c.args.value in
     (0, says_stack (parts m) m.calls m.most_calls (vec_capacity m.low) (length m.pages) c.self.invariant m.pages c.args.self.now c.self.view_is address bytes
@@ -24,7 +24,7 @@ returns-then-is_inside-clause-learns c =
     let m = c.self.inside in
     let address = c.args.address in
     let bytes = big_endian_bytes (bytes_of c.args.width) c.args.value in
-    let inside = c.if-is_inside.ensures.0 tt in
+    let inside = c.if-is_inside.ensures.0 refl in
     let count = c.byte_count-count.ensures in
     let long : length bytes ≡ bytes_of c.args.width = length-big_endian_bytes (bytes_of c.args.width) c.args.value in
     let new = c.write_number.new.bytes in
@@ -39,7 +39,7 @@ returns-then-is_inside-2-clause-says c =
     let m = c.self.inside in
     let address = c.args.address in
     let bytes = big_endian_bytes (bytes_of c.args.width) c.args.value in
-    let inside = c.if-is_inside-2.ensures.0 tt in
+    let inside = c.if-is_inside-2.ensures.0 refl in
     let count = c.byte_count-count.ensures in
     let long : length bytes ≡ bytes_of c.args.width = length-big_endian_bytes (bytes_of c.args.width) c.args.value in
     (0, says_heap (parts m) m.calls m.most_calls (vec_capacity m.low) (length m.pages) c.self.invariant m.pages c.args.self.now c.self.view_is address bytes
@@ -50,7 +50,7 @@ returns-then-is_inside-2-clause-learns c =
     let m = c.self.inside in
     let address = c.args.address in
     let bytes = big_endian_bytes (bytes_of c.args.width) c.args.value in
-    let inside = c.if-is_inside-2.ensures.0 tt in
+    let inside = c.if-is_inside-2.ensures.0 refl in
     let count = c.byte_count-count.ensures in
     let long : length bytes ≡ bytes_of c.args.width = length-big_endian_bytes (bytes_of c.args.width) c.args.value in
     let new = c.write_number-then-is_inside-2.new.bytes in
@@ -65,7 +65,7 @@ returns-then-is_inside-3-clause-says c =
     let m = c.self.inside in
     let address = c.args.address in
     let bytes = big_endian_bytes (bytes_of c.args.width) c.args.value in
-    let inside = c.if-is_inside-3.ensures.0 tt in
+    let inside = c.if-is_inside-3.ensures.0 refl in
     let count = c.byte_count-count.ensures in
     let long : length bytes ≡ bytes_of c.args.width = length-big_endian_bytes (bytes_of c.args.width) c.args.value in
     (0, says_globals (parts m) m.calls m.most_calls (vec_capacity m.low) (length m.pages) c.self.invariant m.pages c.args.self.now c.self.view_is address bytes
@@ -76,7 +76,7 @@ returns-then-is_inside-3-clause-learns c =
     let m = c.self.inside in
     let address = c.args.address in
     let bytes = big_endian_bytes (bytes_of c.args.width) c.args.value in
-    let inside = c.if-is_inside-3.ensures.0 tt in
+    let inside = c.if-is_inside-3.ensures.0 refl in
     let count = c.byte_count-count.ensures in
     let long : length bytes ≡ bytes_of c.args.width = length-big_endian_bytes (bytes_of c.args.width) c.args.value in
     let new = c.write_number-then-is_inside-3.new.bytes in
