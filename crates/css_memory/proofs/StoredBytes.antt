@@ -89,7 +89,7 @@ module _ (p : Parts) (calls most capacity pages : ℕ) (is : IsKept p capacity p
   pub grown_is : (more : ℕ) → kept (record p { low = p.low ++ replicate more 0 }) calls most ≡ record (kept p calls most) { heap = (kept p calls most).heap ++ replicate more 0 }
   grown_is more =
       let m = kept p calls most in
-      let zeros = replicate more 0 in
+      let zeros : List ℕ = replicate more 0 in
       same_memory
       (take (p.globals_end - 4096) (p.low ++ zeros)) m.globals
       (drop (p.heap_start - 4096) (p.low ++ zeros)) (m.heap ++ zeros)
