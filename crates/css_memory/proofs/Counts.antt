@@ -65,9 +65,9 @@ count_rows zero base width stride from n apart = count_none from n
 count_rows (suc rows) base width stride from n apart =
     count_or (is_between base (base + width)) (rows_have rows (base + stride) width stride) from n
     (λ a here. false_from_ne_true (rows_have rows (base + stride) width stride a) (λ later.
-        let w = between_parts base (base + width) a here in
-        let v = have_gives rows (base + stride) width stride a later in
-        omega (arith, w.1, v.2)))
+    let w = between_parts base (base + width) a here in
+    let v = have_gives rows (base + stride) width stride a later in
+    omega (arith, w.1, v.2)))
     ∙ ap (λ k. k + count_from (rows_have rows (base + stride) width stride) from n) (count_between base (base + width) from n)
     ∙ ap (λ k. shared base (base + width) from (from + n) + k) (count_rows rows (base + stride) width stride from n apart)
 
@@ -83,10 +83,10 @@ none_has : (w : Window) (windows : List Window) → IsApart windows w → (a : �
 none_has w [] apart a has = refl
 none_has w (v ∷ windows) apart a has =
     false_from_ne_true (has_byte v a || has_any windows a) (λ one.
-        elim (or_cases (has_byte v a) (has_any windows a) one) [
-          | inl here ↦ cc (apart_gives v w apart.0 a here)
-          | inr later ↦ cc (none_has w windows apart.1 a has)
-        ])
+    elim (or_cases (has_byte v a) (has_any windows a) one) [
+      | inl here ↦ cc (apart_gives v w apart.0 a here)
+      | inr later ↦ cc (none_has w windows apart.1 a has)
+    ])
 
 count_windows : (size : ℕ) (windows : List Window) (from n : ℕ) → AllByRecursion (IsWithin size) windows → AreDisjoint windows
     → count_from (has_any windows) from n ≡ all_between windows from (from + n)

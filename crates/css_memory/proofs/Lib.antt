@@ -8,3 +8,5 @@ pub mod RowSteps
 pub mod Replies
 pub mod Counts
 pub mod Marks
+pub mod FlatStates
+pub mod Untouched

@@ -138,12 +138,12 @@ rows_end : (size rows base width stride from : ℕ) → RowsEnd size rows base w
 rows_end size zero base width stride from ends behind = refl
 rows_end size (suc rows) base width stride from ends behind =
     false_from_ne_true (row_meets base width from (from + 4096) || rows_meet rows (base + stride) width stride from (from + 4096)) (λ one.
-        elim (or_cases (row_meets base width from (from + 4096)) (rows_meet rows (base + stride) width stride from (from + 4096)) one) [
-          | inl here ↦
-              let parts = and_parts (nat_lt base (from + 4096)) (nat_lt from (base + width)) here in
-              omega (arith, ltb-true from (base + width) parts.1, ends.0)
-          | inr later ↦ cc (rows_end size rows (base + stride) width stride from ends.1 behind)
-        ])
+    elim (or_cases (row_meets base width from (from + 4096)) (rows_meet rows (base + stride) width stride from (from + 4096)) one) [
+      | inl here ↦
+          let parts = and_parts (nat_lt base (from + 4096)) (nat_lt from (base + width)) here in
+          omega (arith, ltb-true from (base + width) parts.1, ends.0)
+      | inr later ↦ cc (rows_end size rows (base + stride) width stride from ends.1 behind)
+    ])
 
 none_behind : (size page : ℕ) (windows : List Window) → AllByRecursion (IsWithin size) windows → size ≤ 4096 * page → list_any (is_on page) windows ≡ false
 none_behind size page [] within behind = refl
@@ -162,16 +162,16 @@ module _ (pages : List ℕ) (marked : List Window) (are : AreMarked pages marked
       let found : list_any (is_on (page_of at)) marked ≡ true = ap (λ p. list_any (is_on p) marked) here ∙ on in
       ap not (false_from_ne_true (all_from (λ a. not (list_any (is_on (page_of a)) marked)) address n)
       (λ all. let none = all_gives (λ a. not (list_any (is_on (page_of a)) marked)) address n all at (omega arith) (omega arith) in
-          cc (not-true (list_any (is_on (page_of at)) marked) none)))
+      cc (not-true (list_any (is_on (page_of at)) marked) none)))
 
   no_page : (a page : ℕ) → page ≡ page_of a → address ≤ a → a < address + n → ((page : ℕ) → first ≤ page → page ≤ last → page < length pages → slice_index pages page ≡ 0) → list_any (is_on page) marked ≡ false
   no_page a page is above below none =
       false_from_ne_true (list_any (is_on page) marked) (λ any.
-          let bytes = any_on (4096 * length pages) page marked are.within any in
-          elim (cases_lt page (length pages)) [
-            | inl within ↦ omega (arith, are.bytes page within, none page (omega arith) (omega arith) within)
-            | inr behind ↦ cc (none_behind (4096 * length pages) page marked are.within (omega arith))
-          ])
+      let bytes = any_on (4096 * length pages) page marked are.within any in
+      elim (cases_lt page (length pages)) [
+        | inl within ↦ omega (arith, are.bytes page within, none page (omega arith) (omega arith) within)
+        | inr behind ↦ cc (none_behind (4096 * length pages) page marked are.within (omega arith))
+      ])
 
   pub touches_none : ((page : ℕ) → first ≤ page → page ≤ last → page < length pages → slice_index pages page ≡ 0) → touches marked address n ≡ false
   touches_none none =

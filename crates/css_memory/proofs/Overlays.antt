@@ -55,11 +55,11 @@ module _ (first : ℕ) (bytes : List ℕ) (address : ℕ) (new : List ℕ) (from
       same_overlay first bytes address new from part
       (λ p above below. grind (arith, nat_tests))
       (λ p above below inside.
-          let parts = and_parts (nat_le address p) (nat_lt p (address + length new)) inside in
-          let after = leb-true address p parts.0 in
-          let before = ltb-true p (address + length new) parts.1 in
-          let at : from - address + (p - from) ≡ p - address = omega arith in
-          sym (get_or-take (to - from) (drop (from - address) new) (p - from) 0 (omega arith) ∙ get_or-drop (from - address) new (p - from) 0 ∙ ap (slice_index new) at)) in
+      let parts = and_parts (nat_le address p) (nat_lt p (address + length new)) inside in
+      let after = leb-true address p parts.0 in
+      let before = ltb-true p (address + length new) parts.1 in
+      let at : from - address + (p - from) ≡ p - address = omega arith in
+      sym (get_or-take (to - from) (drop (from - address) new) (p - from) 0 (omega arith) ∙ get_or-drop (from - address) new (p - from) 0 ∙ ap (slice_index new) at)) in
       let whole : overlaid first bytes (first + (from - first)) part ≡ take (from - first) bytes ++ (part ++ drop (from - first + length part) bytes) =
       spliced first bytes (from - first) part (omega arith) in
       let start : first + (from - first) ≡ from = omega arith in

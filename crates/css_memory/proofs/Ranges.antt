@@ -68,28 +68,28 @@ module _ (g h t s e : ℕ) (first : 4096 ≤ g) (globals : g ≤ h) (heap : h �
   live_above a live =
       elim (live_parts g h t s e a live) [
         | inl w ↦ w.0
-        | inr o ↦ elim o [ | inl w ↦ omega (arith, w.0) | inr w ↦ omega (arith, w.0) ]
+        | inr o ↦ elim o [ inl w ↦ omega (arith, w.0) | inr w ↦ omega (arith, w.0) ]
       ]
 
   pub live_below : (a : ℕ) → is_live_at g h t s e a ≡ true → a < e
   live_below a live =
       elim (live_parts g h t s e a live) [
         | inl w ↦ omega (arith, w.1)
-        | inr o ↦ elim o [ | inl w ↦ omega (arith, w.1) | inr w ↦ w.1 ]
+        | inr o ↦ elim o [ inl w ↦ omega (arith, w.1) | inr w ↦ w.1 ]
       ]
 
   pub not_in_gap : (a : ℕ) → is_live_at g h t s e a ≡ true → g ≤ a → a < h → ⊥
   not_in_gap a live from to =
       elim (live_parts g h t s e a live) [
         | inl w ↦ omega (arith, w.1)
-        | inr o ↦ elim o [ | inl w ↦ omega (arith, w.0) | inr w ↦ omega (arith, w.0) ]
+        | inr o ↦ elim o [ inl w ↦ omega (arith, w.0) | inr w ↦ omega (arith, w.0) ]
       ]
 
   pub not_in_other : (a : ℕ) → is_live_at g h t s e a ≡ true → t ≤ a → a < s → ⊥
   not_in_other a live from to =
       elim (live_parts g h t s e a live) [
         | inl w ↦ omega (arith, w.1)
-        | inr o ↦ elim o [ | inl w ↦ omega (arith, w.1) | inr w ↦ omega (arith, w.0) ]
+        | inr o ↦ elim o [ inl w ↦ omega (arith, w.1) | inr w ↦ omega (arith, w.0) ]
       ]
 
   pub live_globals : (a : ℕ) → 4096 ≤ a → a < g → is_live_at g h t s e a ≡ true
@@ -151,11 +151,11 @@ module _ (g h t s e : ℕ) (first : 4096 ≤ g) (globals : g ≤ h) (heap : h �
         (and_from (nat_le 4096 address) (nat_le (address + n) e) (le-leb 4096 address above) (le-leb (address + n) e (omega arith)))
         (and_from (not (meets_gap g h address (address + n))) (not (meets_gap t s address (address + n)))
         (not_by (meets_gap g h address (address + n)) (λ meets.
-            let w = gap_parts g h address (address + n) meets in
-            not_in_gap (max address g) (each (max address g) (omega arith) (omega (arith, w.2))) (omega arith) (omega (arith, w.0, w.1))))
+        let w = gap_parts g h address (address + n) meets in
+        not_in_gap (max address g) (each (max address g) (omega arith) (omega (arith, w.2))) (omega arith) (omega (arith, w.0, w.1))))
         (not_by (meets_gap t s address (address + n)) (λ meets.
-            let w = gap_parts t s address (address + n) meets in
-            not_in_other (max address t) (each (max address t) (omega arith) (omega (arith, w.2))) (omega arith) (omega (arith, w.0, w.1)))))
+        let w = gap_parts t s address (address + n) meets in
+        not_in_other (max address t) (each (max address t) (omega arith) (omega (arith, w.2))) (omega arith) (omega (arith, w.0, w.1)))))
 
     -- So many bytes are live exactly where they begin at the first global or behind it, end at the end or before, and meet neither gap.
     pub live_is_range : (address n : ℕ) → 1 ≤ n → all_from test address n ≡ is_range g h t s e address (address + n)

@@ -1,6 +1,7 @@
 -- Main's memory as contracts see it.
-use Rattle.std.specs.Prelude.{ℕ, ◌+◌, List}
-use Rattle.css_semantics.specs.Dialogue.{Action, Enter, Leave, Load, Store, Reply, Says}
+use Rattle.std.specs.Prelude.{ℕ, List, Bool, true, false}
+use Rattle.css_semantics.specs.Dialogue.{Action, Reply}
+use Rattle.css_semantics.specs.Actions.{Access, Enters, Leaves, Loads, Stores, Allots, NoAccess, access_of}
 use Rattle.css_semantics.specs.Memory.{Memory, stack_place, after}
 use Rattle.css_semantics.specs.Flat.{memory_reply}
 use Rattle.css_isa.specs.Spaces.{IsStackPlace}
@@ -31,3 +32,15 @@ place_moves = record {
   loads = λ s. places.loads s.memory;
   stores = λ s. places.stores s.memory;
 }
+
+-- an access to a memory, the heap among it
+abbrev pub is_access : Access → Bool
+is_access (Enters size) = true
+is_access (Leaves base size) = true
+is_access (Loads address width) = true
+is_access (Stores address bytes) = true
+is_access (Allots size) = true
+is_access NoAccess = false
+
+abbrev pub is_of_memory : Action → Bool
+is_of_memory action = is_access (access_of action)

@@ -131,7 +131,11 @@ impl MainMemory {
         if length == 0 {
             return true;
         }
-        is_within(&self.layout(), u64::from(address), u64::from(address) + u64::from(length))
+        is_within(
+            &self.layout(),
+            u64::from(address),
+            u64::from(address) + u64::from(length),
+        )
     }
 
     /// Lends the bytes of the globals. They, those of the heap and those of the stack, joined, are all live bytes.

@@ -25,7 +25,12 @@ pub(crate) fn first_bytes(
     // A byte that several give is the first one's.
     for done in 0..datums.len() {
         let d = &datums[datums.len() - 1 - done];
-        overlay(&mut bytes, FIRST as usize, d.address as usize, d.bytes.as_slice());
+        overlay(
+            &mut bytes,
+            FIRST as usize,
+            d.address as usize,
+            d.bytes.as_slice(),
+        );
     }
     Ok(bytes)
 }

@@ -59,7 +59,10 @@ fn heap(rt: HostRuntime) -> Result<(), Fail> {
     assert_eq!(&rt; memory.heap().len(), 1_028_080);
     let layout = memory.layout();
     assert_eq!(&rt; (layout.globals_end, layout.heap_start), (4_106, 4_112));
-    assert_eq!(&rt; (layout.heap_top, layout.stack_place, layout.end), (1_032_192, 2_097_152, 2_097_152));
+    assert_eq!(&rt;
+        (layout.heap_top, layout.stack_place, layout.end),
+        (1_032_192, 2_097_152, 2_097_152)
+    );
     for (address, width, value) in [
         (4_111, Width::W8, Err(OUTSIDE)),
         (4_112, Width::W64, Ok(0)),
@@ -117,7 +120,10 @@ fn borders(rt: HostRuntime) -> Result<(), Fail> {
     assert_eq!(&rt; memory.malloc(1_028_080), 4_112);
     assert_eq!(&rt; memory.push_frame(1_064_960), Ok(1_032_192));
     for address in [4_108, 1_032_188] {
-        assert_eq!(&rt; memory.store(address, Width::W64, 0x0102_0304_0506_0708), Ok(()));
+        assert_eq!(&rt;
+            memory.store(address, Width::W64, 0x0102_0304_0506_0708),
+            Ok(())
+        );
         assert_eq!(&rt; memory.load(address, Width::W64), Ok(0x0102_0304_0506_0708));
         assert_eq!(&rt; memory.load(address + 3, Width::W16), Ok(0x0405));
     }

@@ -2,7 +2,7 @@
 
 use crate::codes::{LIMITS, zeros};
 use css_isa::{Space, Width};
-use css_memory::MainMemory;
+use css_memory::{Input, MainMemory};
 use css_record::Window;
 use std::test::Fail;
 
@@ -22,10 +22,23 @@ fn rows(rt: HostRuntime) -> Result<(), Fail> {
         memory.globals(),
         [0, 1, 2, 0, 0, 0, 3, 4, 0, 0, 0, 5, 6, 0, 0, 0].as_slice()
     );
+    assert!(&rt; memory.live(4_097, 2) && memory.live(4_102, 2) && memory.live(4_107, 2));
     let bytes = memory.snapshot(rt.alloc(), part)?;
     assert_eq!(&rt; bytes.bytes(), [1, 2, 3, 4, 5, 6].as_slice());
-    let row = memory.snapshot(rt.alloc(), Window::plain(4_101, 3))?;
+    let row = Window::plain(4_101, 3);
+    assert!(&rt; memory.live(4_101, 3));
+    let row = memory.snapshot(rt.alloc(), row)?;
     assert_eq!(&rt; row.bytes(), [0, 3, 4].as_slice());
+    Ok(())
+}
+
+// The input's bytes, and then -1.
+#[test]
+fn input(rt: HostRuntime) -> Result<(), Fail> {
+    let mut input = Input::new(b"\x00\xff");
+    for byte in [0, 255, u64::MAX, u64::MAX] {
+        assert_eq!(&rt; input.read_byte(), byte);
+    }
     Ok(())
 }
 
@@ -36,6 +49,7 @@ fn pages(rt: HostRuntime) -> Result<(), Fail> {
     let mut memory = MainMemory::new(rt.alloc(), &code, &LIMITS, false)?;
     assert!(&rt; !memory.touches(0, 4_294_967_295));
     let part = Window::plain(8_190, 4);
+    assert!(&rt; memory.live(8_190, 4));
     memory.mark_pages(part, true);
     for (address, length, touched) in [
         (4_095, 1, false),

@@ -12,9 +12,8 @@ pub mark-requires-clause-within : goal.mark-requires-clause-within
 mark-requires-clause-within c =
     let m = c.self.inside in
     let w = c.args.part in
-    let live = ap (λ (s : Main). all_of_window (is_live_byte s.memory) (window w)) c.self.view_is ∙ c.requires.live c.if-more.true in
-    (
+    let live = ap (λ (s : Main). all_of_window (is_live_byte s.memory) (window w)) c.self.view_is ∙ c.requires.live c.if-more.true in (
       c.requires.is_window,
       ends_more (end_of (parts m)) (4096 * length m.pages) w.rows w.base w.width w.stride c.self.invariant.pages
-      (live_ends (parts m) m.calls m.most_calls (vec_capacity m.low) (length m.pages) c.self.invariant w.rows w.base w.width w.stride c.requires.is_window.width live),
+          (live_ends (parts m) m.calls m.most_calls (vec_capacity m.low) (length m.pages) c.self.invariant w.rows w.base w.width w.stride c.requires.is_window.width live),
     )

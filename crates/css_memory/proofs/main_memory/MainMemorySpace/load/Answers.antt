@@ -16,8 +16,8 @@ returns-then-is_inside-clause-says c =
     let count = c.byte_count-count.ensures in
     let long : index + c.byte_count-count.result - index ≡ n = omega (arith, count) in
     let value = c.number_of.ensures
-        ∙ ap (λ k. big_endian (take k (drop index bytes))) long
-        ∙ ap (λ xs. big_endian (take n (drop index xs))) c.deref.ensures.value in
+    ∙ ap (λ k. big_endian (take k (drop index bytes))) long
+    ∙ ap (λ xs. big_endian (take n (drop index xs))) c.deref.ensures.value in
     loads_stack (parts m) m.calls m.most_calls (vec_capacity m.low) (length m.pages) c.self.invariant m.pages c.args.self.now c.self.view_is address n c.number_of.result
     (omega (arith, inside.0)) (omega (arith, inside.1, count)) value
 
@@ -32,8 +32,8 @@ returns-then-is_inside-2-clause-says c =
     let count = c.byte_count-count.ensures in
     let long : index + c.byte_count-count.result - index ≡ n = omega (arith, count) in
     let value = c.number_of-then-is_inside-2.ensures
-        ∙ ap (λ k. big_endian (take k (drop index bytes))) long
-        ∙ ap (λ xs. big_endian (take n (drop index xs))) c.deref-then-is_inside-2.ensures.value in
+    ∙ ap (λ k. big_endian (take k (drop index bytes))) long
+    ∙ ap (λ xs. big_endian (take n (drop index xs))) c.deref-then-is_inside-2.ensures.value in
     loads_heap (parts m) m.calls m.most_calls (vec_capacity m.low) (length m.pages) c.self.invariant m.pages c.args.self.now c.self.view_is address n c.number_of-then-is_inside-2.result
     (omega (arith, inside.0)) (omega (arith, inside.1, count)) value
 
@@ -48,7 +48,7 @@ returns-then-is_inside-3-clause-says c =
     let count = c.byte_count-count.ensures in
     let long : index + c.byte_count-count.result - index ≡ n = omega (arith, count) in
     let value = c.number_of-then-is_inside-3.ensures
-        ∙ ap (λ k. big_endian (take k (drop index bytes))) long
-        ∙ ap (λ xs. big_endian (take n (drop index xs))) c.deref-then-is_inside-3.ensures.value in
+    ∙ ap (λ k. big_endian (take k (drop index bytes))) long
+    ∙ ap (λ xs. big_endian (take n (drop index xs))) c.deref-then-is_inside-3.ensures.value in
     loads_globals (parts m) m.calls m.most_calls (vec_capacity m.low) (length m.pages) c.self.invariant m.pages c.args.self.now c.self.view_is address n c.number_of-then-is_inside-3.result
     (omega (arith, inside.0)) (omega (arith, inside.1, count)) value

@@ -15,9 +15,11 @@ returns-then-is_inside-clause-says c =
     let bytes = big_endian_bytes (bytes_of c.args.width) c.args.value in
     let inside = c.if-is_inside.ensures.0 refl in
     let count = c.byte_count-count.ensures in
-    let long : length bytes ≡ bytes_of c.args.width = length-big_endian_bytes (bytes_of c.args.width) c.args.value in
-    (0, says_stack (parts m) m.calls m.most_calls (vec_capacity m.low) (length m.pages) c.self.invariant m.pages c.args.self.now c.self.view_is address bytes
-    (omega (arith, inside.0)) (omega (arith, inside.1, count, long)))
+    let long : length bytes ≡ bytes_of c.args.width = length-big_endian_bytes (bytes_of c.args.width) c.args.value in (
+      0,
+      says_stack (parts m) m.calls m.most_calls (vec_capacity m.low) (length m.pages) c.self.invariant m.pages c.args.self.now c.self.view_is address bytes
+          (omega (arith, inside.0)) (omega (arith, inside.1, count, long)),
+    )
 
 pub returns-then-is_inside-clause-learns : goal.returns-then-is_inside-clause-learns
 returns-then-is_inside-clause-learns c =
@@ -41,9 +43,11 @@ returns-then-is_inside-2-clause-says c =
     let bytes = big_endian_bytes (bytes_of c.args.width) c.args.value in
     let inside = c.if-is_inside-2.ensures.0 refl in
     let count = c.byte_count-count.ensures in
-    let long : length bytes ≡ bytes_of c.args.width = length-big_endian_bytes (bytes_of c.args.width) c.args.value in
-    (0, says_heap (parts m) m.calls m.most_calls (vec_capacity m.low) (length m.pages) c.self.invariant m.pages c.args.self.now c.self.view_is address bytes
-    (omega (arith, inside.0)) (omega (arith, inside.1, count, long)))
+    let long : length bytes ≡ bytes_of c.args.width = length-big_endian_bytes (bytes_of c.args.width) c.args.value in (
+      0,
+      says_heap (parts m) m.calls m.most_calls (vec_capacity m.low) (length m.pages) c.self.invariant m.pages c.args.self.now c.self.view_is address bytes
+          (omega (arith, inside.0)) (omega (arith, inside.1, count, long)),
+    )
 
 pub returns-then-is_inside-2-clause-learns : goal.returns-then-is_inside-2-clause-learns
 returns-then-is_inside-2-clause-learns c =
@@ -67,9 +71,11 @@ returns-then-is_inside-3-clause-says c =
     let bytes = big_endian_bytes (bytes_of c.args.width) c.args.value in
     let inside = c.if-is_inside-3.ensures.0 refl in
     let count = c.byte_count-count.ensures in
-    let long : length bytes ≡ bytes_of c.args.width = length-big_endian_bytes (bytes_of c.args.width) c.args.value in
-    (0, says_globals (parts m) m.calls m.most_calls (vec_capacity m.low) (length m.pages) c.self.invariant m.pages c.args.self.now c.self.view_is address bytes
-    (omega (arith, inside.0)) (omega (arith, inside.1, count, long)))
+    let long : length bytes ≡ bytes_of c.args.width = length-big_endian_bytes (bytes_of c.args.width) c.args.value in (
+      0,
+      says_globals (parts m) m.calls m.most_calls (vec_capacity m.low) (length m.pages) c.self.invariant m.pages c.args.self.now c.self.view_is address bytes
+          (omega (arith, inside.0)) (omega (arith, inside.1, count, long)),
+    )
 
 pub returns-then-is_inside-3-clause-learns : goal.returns-then-is_inside-3-clause-learns
 returns-then-is_inside-3-clause-learns c =
