@@ -1,13 +1,11 @@
 -- How many of some addresses pass a test: the bytes that windows have between two addresses.
-use Rattle.std.proofs.Common.{◌≡◌, ℕ, zero, suc, ◌+◌, ◌-◌, ◌*◌, ◌≤◌, ◌<◌, Bool, true, false, ◌||◌, List, [], ◌∷◌, refl, ap, sym, ◌∙◌, arith, if◌then◌else◌, ◌⊎◌, inl, inr}
-use Rattle.std.specs.List.{list_any, AllByRecursion}
+use Rattle.std.proofs.Common.{◌≡◌, ℕ, zero, suc, ◌+◌, ◌*◌, ◌≤◌, Bool, true, false, ◌||◌, List, [], ◌∷◌, refl, ap, sym, ◌∙◌, arith, inl, inr}
+use Rattle.std.specs.List.{AllByRecursion}
 use Rattle.std.proofs.lemmas.Bool.{or_cases, false_from_ne_true, cases_lt}
 use Rattle.css_semantics.specs.Memory.{is_between}
 use Rattle.css_semantics.specs.Tasks.{Window, rows_have, has_byte}
-use Rattle.css_semantics.specs.Rules.{share_byte}
 use Rattle.css_semantics.proofs.WindowRanges.{have_gives}
 use Rattle.css_semantics.proofs.Windows.{apart_gives}
-use Rattle.css_record.specs.Windows.{IsWindow}
 use Rattle.css_memory.specs.Pages.{shared, rows_between, bytes_on, all_on, IsWithin, IsApart, AreDisjoint}
 use Rattle.css_memory.proofs.Ranges.{between_parts, between_by}
 

@@ -1,5 +1,5 @@
 -- The flat world's state is a memory and an input.
-use Rattle.std.proofs.Common.{◌≡◌, true, refl, ap, sym, ◌∙◌}
+use Rattle.std.proofs.Common.{◌≡◌, true, refl, ap, ◌∙◌}
 use Rattle.css_semantics.specs.Dialogue.{Action, Enter, Turn, Leave, Load, Store, Out, In, Malloc, Calls, Returns, Start, Finish, Barrier, Wait, WaitFault, DimFault, Fault, End}
 use Rattle.css_semantics.specs.Memory.{Memory, after}
 use Rattle.css_semantics.specs.Flat.{FlatState, memory_reply, reply_in, flat_after, input_after}

@@ -1,15 +1,13 @@
 -- Windows that are marked and unmarked, and what pages say of them.
-use Rattle.std.proofs.Common.{◌≡◌, ℕ, zero, suc, ◌+◌, ◌-◌, ◌*◌, ◌/◌, ◌%◌, ◌≤◌, ◌<◌, max, Bool, true, false, not, ◌||◌, ◌&&◌, List, [], ◌∷◌, ◌++◌, length, slice_index, replicate, nat_lt, refl, ap, sym, subst, ◌∙◌, arith, ◌⊎◌, inl, inr}
+use Rattle.std.proofs.Common.{◌≡◌, ℕ, zero, suc, ◌+◌, ◌-◌, ◌*◌, ◌/◌, ◌≤◌, ◌<◌, max, true, false, not, ◌||◌, List, [], ◌∷◌, ◌++◌, length, slice_index, replicate, nat_lt, refl, ap, sym, subst, ◌∙◌, arith, ◌⊎◌, inl, inr}
 use Rattle.std.specs.List.{list_any, AllByRecursion}
-use Rattle.std.proofs.lemmas.Bool.{and_parts, and_from, or_cases, or_left, or_right, cases_lt, false_from_ne_true, ltb-true, lt-ltb, not-true, not-false}
+use Rattle.std.proofs.lemmas.Bool.{and_parts, and_from, or_cases, or_left, or_right, cases_lt, false_from_ne_true, ltb-true, lt-ltb, not-true}
 use Rattle.std.proofs.lemmas.List.{get_or-replicate, length-replicate}
 use Rattle.css_semantics.specs.Memory.{all_from}
 use Rattle.css_semantics.specs.Tasks.{Window}
-use Rattle.css_semantics.specs.Pending.{some_from}
 use Rattle.css_semantics.specs.Rules.{share_byte}
-use Rattle.css_semantics.specs.WindowRanges.{row_meets, rows_meet, window_meets}
+use Rattle.css_semantics.specs.WindowRanges.{row_meets, rows_meet}
 use Rattle.css_semantics.proofs.Windows.{apart-sym}
-use Rattle.css_record.specs.Windows.{IsWindow}
 use Rattle.css_memory.specs.Pages.{page_of, is_on, touches, shared, rows_between, bytes_on, all_on, RowsEnd, IsWithin, IsApart, AreDisjoint, AreMarked}
 use Rattle.css_memory.proofs.Ranges.{all_gives, all_by}
 use Rattle.css_memory.proofs.Counts.{page_bound}

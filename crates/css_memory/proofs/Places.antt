@@ -1,11 +1,11 @@
 -- Where the parts of a memory stand that the code keeps, and which of its bytes are live.
-use Rattle.std.proofs.Common.{◌≡◌, ◌⊎◌, inl, inr, ℕ, ◌+◌, ◌-◌, ◌≤◌, ◌<◌, Bool, true, false, ◌||◌, length, take, drop, slice_index, refl, ap, sym, subst, ◌∙◌, arith, if◌then◌else◌}
+use Rattle.std.proofs.Common.{◌≡◌, inl, inr, ℕ, ◌+◌, ◌-◌, ◌≤◌, ◌<◌, Bool, true, false, ◌||◌, length, take, drop, slice_index, refl, ap, sym, ◌∙◌, arith, if◌then◌else◌}
 use Rattle.std.proofs.lemmas.List.{length-take-le, length-drop, get_or-take, get_or-drop}
-use Rattle.std.proofs.lemmas.Bool.{cases_lt, not-true}
+use Rattle.std.proofs.lemmas.Bool.{cases_lt}
 use Rattle.std.proofs.lemmas.Bool.Decides.{nat_tests}
-use Rattle.css_semantics.specs.Memory.{Memory, rounded_up, globals_end, heap_start, heap_top, stack_place, is_between, is_live_byte, is_live, byte_at}
+use Rattle.css_semantics.specs.Memory.{rounded_up, globals_end, heap_start, heap_top, stack_place, is_between, is_live_byte, is_live, byte_at}
 use Rattle.css_memory.specs.Kept.{Parts, top_of, place_of, end_of, kept, IsKept}
-use Rattle.css_memory.proofs.Ranges.{is_live_at, is_range, between_by, live_globals, live_heap, live_stack, not_in_gap, live_is_range}
+use Rattle.css_memory.proofs.Ranges.{is_live_at, is_range, between_by, not_in_gap, live_is_range}
 
 module _ (p : Parts) (calls most capacity pages : ℕ) (is : IsKept p capacity pages) where
   -- the parts stand in order

@@ -1,5 +1,5 @@
 -- What a memory replies, and main's memory as it is made of its parts.
-use Rattle.std.proofs.Common.{◌≡◌, ℕ, ◌+◌, ◌-◌, ◌≤◌, ◌<◌, List, length, take, drop, Bool, true, false, ◌&&◌, ◌==◌, nat_le, nat_lt, if◌then◌else◌, refl, ap, sym, subst, ◌∙◌, arith}
+use Rattle.std.proofs.Common.{◌≡◌, ℕ, ◌+◌, ◌-◌, ◌≤◌, ◌<◌, List, length, take, drop, Bool, true, false, if◌then◌else◌, refl, ap, sym, subst, ◌∙◌, arith}
 use Rattle.std.proofs.lemmas.Bool.Decides.{nat_tests}
 use Rattle.css_semantics.specs.Dialogue.{Leave, Load, Store, Says}
 use Rattle.css_semantics.specs.Memory.{Memory, StackLimit, overlaid, heap_top, stack_place, is_live, is_live_byte, bytes_at, big_endian, stored, after}

@@ -1,10 +1,10 @@
 -- Rows of windows, one after another.
-use Rattle.std.proofs.Common.{◌≡◌, ℕ, zero, suc, ◌+◌, ◌-◌, ◌*◌, ◌^◌, ◌≤◌, ◌<◌, Bool, true, ◌&&◌, List, ◌++◌, length, take, drop, append_assoc, refl, ap, sym, subst, ◌∙◌, arith}
+use Rattle.std.proofs.Common.{◌≡◌, ℕ, zero, suc, ◌+◌, ◌-◌, ◌*◌, ◌^◌, ◌≤◌, ◌<◌, Bool, true, List, ◌++◌, take, drop, append_assoc, ap, sym, subst, ◌∙◌, arith}
 use Rattle.std.proofs.Math.Nat.{suc-mul}
 use Rattle.std.proofs.lemmas.List.{drop-drop}
 use Rattle.std.proofs.lemmas.Bool.{and_parts}
 use Rattle.css_semantics.specs.Memory.{Memory, all_from, is_live_byte, bytes_at, stored}
-use Rattle.css_semantics.specs.Tasks.{Window, span}
+use Rattle.css_semantics.specs.Tasks.{Window}
 use Rattle.css_semantics.specs.Rules.{all_of_rows}
 use Rattle.css_semantics.specs.Verdict.{bytes_of_rows}
 use Rattle.css_semantics.specs.WithWindow.{with_rows}

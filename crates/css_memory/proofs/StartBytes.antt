@@ -1,5 +1,5 @@
 -- The globals' first bytes, and the memory in which a code starts.
-use Rattle.std.proofs.Common.{◌≡◌, ℕ, ◌+◌, ◌-◌, ◌≤◌, List, [], ◌∷◌, length, take, drop, replicate, refl, ap, ◌∙◌, arith}
+use Rattle.std.proofs.Common.{◌≡◌, ℕ, ◌+◌, ◌-◌, ◌≤◌, List, [], ◌∷◌, length, take, drop, replicate, ap, ◌∙◌, arith}
 use Rattle.std.proofs.lemmas.List.{take-replicate, length-replicate, drop_all}
 use Rattle.css_semantics.specs.Memory.{rounded_up, overlaid}
 use Rattle.css_semantics.proofs.StackPlaces.{length-overlaid}

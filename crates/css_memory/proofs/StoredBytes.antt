@@ -1,12 +1,11 @@
 -- What a memory that the code keeps becomes.
-use Rattle.std.proofs.Common.{◌≡◌, ℕ, zero, suc, ◌+◌, ◌-◌, ◌≤◌, ◌<◌, Bool, true, false, List, [], ◌∷◌, ◌++◌, length, take, drop, replicate, refl, ap, sym, ◌∙◌, arith}
+use Rattle.std.proofs.Common.{◌≡◌, ℕ, ◌+◌, ◌-◌, ◌≤◌, List, ◌++◌, length, take, drop, replicate, refl, ap, sym, ◌∙◌, arith}
 use Rattle.std.proofs.lemmas.List.{take-append-le, drop-append-le}
 use Rattle.std.proofs.lemmas.Bool.Decides.{nat_tests}
-use Rattle.css_semantics.specs.Memory.{Memory, heap_start, stack_place, is_between, overlaid, stored}
-use Rattle.css_semantics.specs.WithWindow.{with_rows}
+use Rattle.css_semantics.specs.Memory.{Memory, heap_start, stack_place, overlaid, stored}
 use Rattle.css_semantics.proofs.StackPlaces.{length-overlaid}
 use Rattle.css_isa.proofs.Bytes.{drop-overlaid, overlaid-shift}
-use Rattle.css_memory.specs.Kept.{Parts, top_of, place_of, end_of, kept, IsKept}
+use Rattle.css_memory.specs.Kept.{Parts, top_of, place_of, kept, IsKept}
 use Rattle.css_memory.proofs.Overlays.{take-overlaid, none_overlaid}
 use Rattle.css_memory.proofs.Places.{globals_below, top_below, stack_above, heap_start_is, place_is}
 

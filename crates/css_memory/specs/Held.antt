@@ -1,6 +1,5 @@
 -- Main's memory as the code holds it.
 use Rattle.std.specs.Prelude.{length, vec_capacity}
-use Rattle.css_semantics.specs.Memory.{Memory}
 use Rattle.css_memory.specs.declared.main_memory.MainMemory.TheInside.{Inside}
 use Rattle.css_memory.specs.Main.{Main}
 use Rattle.css_memory.specs.Kept.{Parts, kept, IsKept}

@@ -1,4 +1,4 @@
-use Rattle.std.proofs.Common.{◌≡◌, ◌+◌, ◌-◌, ◌*◌, length, ap, sym, subst, arith}
+use Rattle.std.proofs.Common.{◌≡◌, ◌+◌, ◌-◌, ◌*◌, length, subst, arith}
 use Rattle.css_memory.specs.Pages.{RowsEnd}
 use Rattle.css_memory.proofs.RowSteps.{one_more, ends_step, between_step}
 use Rattle.css_memory.proofs.pages.remove_window.Goals as goal

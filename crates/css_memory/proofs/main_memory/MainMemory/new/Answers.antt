@@ -1,9 +1,9 @@
-use Rattle.std.proofs.Common.{◌≡◌, ℕ, ◌+◌, ◌-◌, ◌*◌, ◌/◌, ◌≤◌, List, length, map, replicate, if◌then◌else◌, refl, ap, ◌∙◌, arith}
+use Rattle.std.proofs.Common.{◌≡◌, ◌+◌, ◌-◌, ◌*◌, ◌/◌, ◌≤◌, length, map, replicate, if◌then◌else◌, refl, ap, ◌∙◌, arith}
 use Rattle.css_semantics.specs.Flat.{erased_stack}
 use Rattle.css_semantics.specs.Rules.{main_stack}
 use Rattle.css_isa.specs.Code.{datum, code_of}
 use Rattle.css_memory.specs.Starts.{first_bytes, start_of}
-use Rattle.css_memory.specs.Kept.{Parts, kept}
+use Rattle.css_memory.specs.Kept.{kept}
 use Rattle.css_memory.proofs.StartBytes.{length-first_bytes, parts_at, first_is}
 use Rattle.css_memory.proofs.Replies.{stack_limit, as_erased, as_judged}
 use Rattle.css_memory.proofs.main_memory.MainMemory.new.Goals as goal

@@ -1,4 +1,4 @@
-use Rattle.std.proofs.Common.{◌≡◌, length, vec_capacity, subst, arith}
+use Rattle.std.proofs.Common.{◌≡◌, subst, arith}
 use Rattle.std.proofs.lemmas.List.{length-drop}
 use Rattle.css_semantics.specs.Dialogue.{Leave, Says}
 use Rattle.css_semantics.specs.Memory.{stack_place}

@@ -1,4 +1,4 @@
-use Rattle.std.proofs.Common.{◌≡◌, ℕ, ◌+◌, ◌-◌, ◌/◌, List, refl, sym, subst, ◌∙◌, arith}
+use Rattle.std.proofs.Common.{ℕ, ◌+◌, ◌-◌, ◌/◌, List, refl, sym, subst, ◌∙◌, arith}
 use Rattle.css_memory.specs.Pages.{touches, AreMarked}
 use Rattle.css_memory.proofs.Marks.{does_touch, touches_none}
 use Rattle.css_memory.proofs.Replies.{same_by}
